@@ -1,0 +1,9 @@
+pub mod Firsts
+pub mod Eachs
+pub mod Sums
+pub mod Products
+pub mod Facts
+pub mod Judging
+pub mod Keeping
+pub mod Lowests
+pub mod Passing
