@@ -62,10 +62,13 @@ span-ok n first last = in-day n first && (in-day n last && leZ first last)
 abbrev pub start-bounds : ℤ → ℤ → Result Unit Refusal
 start-bounds minutes count = tests ((minutes-ok minutes, Minutes) ∷ (count-ok count, Count) ∷ [])
 
--- 3, 4, 5: the terms of an interval in a day of n
+-- 3, 4, 5: the tests of the terms of an interval in a day of n
+abbrev pub terms-table : ℕ → ℤ → ℤ → ℤ → ℤ → List (Bool × Refusal)
+terms-table n interval price net rounded = (in-day n interval, NoInterval) ∷ (price-ok price, Price) ∷ (net-ok net rounded, NetPosition) ∷ []
+
+-- terms that could be set in a day of n, or why not
 abbrev pub terms-bounds : ℕ → ℤ → ℤ → ℤ → ℤ → Result Unit Refusal
-terms-bounds n interval price net rounded =
-    tests ((in-day n interval, NoInterval) ∷ (price-ok price, Price) ∷ (net-ok net rounded, NetPosition) ∷ [])
+terms-bounds n interval price net rounded = tests (terms-table n interval price net rounded)
 
 -- 3, 4, 7, 8: the tests of an order in a day of n
 abbrev pub order-table : ℕ → Order → List (Bool × Refusal)

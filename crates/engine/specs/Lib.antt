@@ -1,0 +1,4 @@
+pub mod Sound
+pub mod Days
+pub mod Books
+pub mod Judging
