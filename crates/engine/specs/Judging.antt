@@ -20,7 +20,8 @@ use Rattle.market.specs.Passes.{Lawful-book, Passes}
 use Rattle.market.specs.Broken.{Broken}
 use Rattle.engine.specs.declared.day.Day.{Day}
 use Rattle.engine.specs.declared.book.Closed.{Closed}
-use Rattle.engine.specs.declared.book.Passed.{Passed}
+use Rattle.engine.specs.declared.book.Pass.{Pass}
+use Rattle.engine.specs.declared.book.Fail.{Fail}
 use Rattle.engine.specs.Days.{records}
 
 -- the test of the memory: no shorter than the counts, and as many fills as entries
@@ -55,18 +56,18 @@ module _ (c : Closed) (d : Day) (os : List Order) (fs : List ℕ) (bs : List Blo
     pub rules : Passes (records d) book-orders fs book-blocks gs
 
   -- a pass with the welfare exactly where the paper passes; else the first that is broken: everything before it holds
-  abbrev pub Book-judged : Result ℤ Refusal → Type 0
-  Book-judged (Ok w) = Paper-passes × (w ≡ welfare book-orders fs book-blocks gs)
-  Book-judged (Err e) =
+  abbrev pub Paper-judged : Result ℤ Refusal → Type 0
+  Paper-judged (Ok w) = Paper-passes × (w ≡ welfare book-orders fs book-blocks gs)
+  Paper-judged (Err e) =
       (((Memory-fits c os fs bs gs → ⊥) × (e ≡ Short)) ⊎ (Memory-fits c os fs bs gs × Broken (records d) book-orders fs book-blocks gs e))
       × (Paper-passes → ⊥)
 
-  -- the passed book has the counts of the closed one, and a refusal gives the closed book back
-  abbrev pub Pair-judged : Result (Passed × ℤ) (Refusal × Closed) → Type 0
-  Pair-judged (Ok (p, w)) = Book-judged (Ok w)
-  Pair-judged (Err (e, c′)) = Book-judged (Err e)
+-- the verdict in what judging hands over
+abbrev pub verdict-in : Result Pass Fail → Result ℤ Refusal
+verdict-in (Ok pass) = Ok (pass .welfare)
+verdict-in (Err fail) = Err (fail .refusal)
 
--- what comes with the answer: the passed book has the counts of the closed one, and a refusal gives the closed book back
-abbrev pub Handed : Closed → Result (Passed × ℤ) (Refusal × Closed) → Result ℤ Refusal → Type 0
-Handed c (Ok (p, w)) answer = (answer ≡ Ok w) × (p .orders ≡ c .orders) × (p .blocks ≡ c .blocks)
-Handed c (Err (e, c′)) answer = (answer ≡ Err e) × (c′ ≡ c)
+-- the passed book has the counts of the closed one, and a refusal gives the closed book back
+abbrev pub Handed : Closed → Result Pass Fail → Type 0
+Handed c (Ok pass) = (pass .book .orders ≡ c .orders) × (pass .book .blocks ≡ c .blocks)
+Handed c (Err fail) = fail .book ≡ c

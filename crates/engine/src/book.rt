@@ -1,5 +1,6 @@
 // The states of the book: open, closed, passed.
 ghost use Prim.Native.Nat.{_≤_};
+use market::refusal::Refusal;
 
 pub mod calls;
 pub mod judging;
@@ -26,4 +27,18 @@ pub struct Passed {
     orders: usize,
     blocks: usize,
     ghost few: { (orders ≤ 1024) × (blocks ≤ 64) },
+}
+
+/// A paper that passes: the passed book, and the welfare of the paper.
+#[derive(Drop)]
+pub struct Pass {
+    pub book: Passed,
+    pub welfare: i64,
+}
+
+/// A paper that is refused: the first broken rule with its place, and the closed book back.
+#[derive(Drop)]
+pub struct Fail {
+    pub refusal: Refusal,
+    pub book: Closed,
 }

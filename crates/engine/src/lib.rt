@@ -1,3 +1,3 @@
 // The auction day and its book: the calls by which a day is made and judged.
-pub mod day;
 pub mod book;
+pub mod day;

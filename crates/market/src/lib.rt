@@ -7,3 +7,4 @@ mod rules;
 pub mod verdict;
 mod walk;
 mod welfare;
+pub mod words;

@@ -6,13 +6,17 @@ ghost use Rattle.market.specs.Bounds.{terms-bounds, order-bounds, block-bounds}
 ghost use Rattle.market.specs.First.{then};
 ghost use Rattle.engine.specs.Books.{Started, Termed, room, entry, taken, Entered};
 ghost use Rattle.std.specs.declared.result.Result.the-variants.{Ok};
-use super::{Closed, Open};
+use super::Closed;
+use super::Open;
 use crate::day::Day;
-use market::bounds::{check_start, check_terms};
-use market::records::{Block, Order};
+use market::bounds::check_start;
+use market::bounds::check_terms;
+use market::records::Block;
+use market::records::Order;
 use market::refusal::Refusal;
 
 const MOST_ORDERS: usize = 1024;
+
 const MOST_BLOCKS: usize = 64;
 
 /// A fresh day of so many intervals, and its open book: 1 for the minutes, then 2 for the count.
@@ -20,7 +24,13 @@ pub fn start(minutes: i32, count: i32) -> Result<(Day, Open), Refusal>
     ensures { λ r. ⌜ Started minutes count r ⌝ }
 {
     check_start(minutes, count)?;
-    Ok((Day::fresh(minutes, count as usize), Open { orders: 0, blocks: 0 }))
+    Ok((
+        Day::fresh(minutes, count as usize),
+        Open {
+            orders: 0,
+            blocks: 0,
+        },
+    ))
 }
 
 // One more record in a memory: 6 exactly when the memory or the limit is full.
@@ -38,7 +48,14 @@ fn enter<T: Copy>(memory: &mut [T], count: usize, most: usize, record: T) -> Res
 
 impl Open {
     /// Sets the price, the net position and its rounding of an interval: 3, 4, 5.
-    pub fn terms(&self, day: &mut Day, interval: i32, price: i32, net: i32, rounded: i32) -> Result<(), Refusal>
+    pub fn terms(
+        &self,
+        day: &mut Day,
+        interval: i32,
+        price: i32,
+        net: i32,
+        rounded: i32,
+    ) -> Result<(), Refusal>
         ensures answers { λ r. ⌜ r ≡ terms-bounds (now (day .entry) .count) interval price net rounded ⌝ }
         ensures leaves { λ r. ⌜ Termed (now (day .entry)) interval price net rounded r (now (day .exit)) ⌝ }
     {
@@ -48,7 +65,12 @@ impl Open {
     }
 
     /// Enters an order into the caller's memory, and answers its entry: 3, 4, 7, 8, and last 6 when the memory or the book is full.
-    pub fn enter_order(&mut self, day: &Day, memory: &mut [Order], order: Order) -> Result<usize, Refusal>
+    pub fn enter_order(
+        &mut self,
+        day: &Day,
+        memory: &mut [Order],
+        order: Order,
+    ) -> Result<usize, Refusal>
         ensures answers { λ r. ⌜ r ≡ entry (order-bounds (now (day .entry) .count) order) (now (self .entry) .orders) (length (now (memory .entry))) 1024 ⌝ }
         ensures leaves { λ r. ⌜ Entered r order (now (self .entry) .orders) (now (memory .entry)) (now (self .exit) .orders) (now (memory .exit)) ⌝ }
         ensures blocks { λ r. ⌜ now (self .exit) .blocks ≡ now (self .entry) .blocks ⌝ }
@@ -60,7 +82,12 @@ impl Open {
 
     /// Enters a block into the caller's memory, and answers its number among the blocks: 3, 4, 7, 10, 8, and last 6 when the memory
     /// or the book is full.
-    pub fn enter_block(&mut self, day: &Day, memory: &mut [Block], block: Block) -> Result<usize, Refusal>
+    pub fn enter_block(
+        &mut self,
+        day: &Day,
+        memory: &mut [Block],
+        block: Block,
+    ) -> Result<usize, Refusal>
         ensures answers { λ r. ⌜ r ≡ entry (block-bounds (now (day .entry) .count) block) (now (self .entry) .blocks) (length (now (memory .entry))) 64 ⌝ }
         ensures leaves { λ r. ⌜ Entered r block (now (self .entry) .blocks) (now (memory .entry)) (now (self .exit) .blocks) (now (memory .exit)) ⌝ }
         ensures orders { λ r. ⌜ now (self .exit) .orders ≡ now (self .entry) .orders ⌝ }
@@ -74,6 +101,9 @@ impl Open {
     pub fn close(self) -> Closed
         ensures { λ r. ⌜ (r .orders ≡ self .orders) × (r .blocks ≡ self .blocks) ⌝ }
     {
-        Closed { orders: self.orders, blocks: self.blocks }
+        Closed {
+            orders: self.orders,
+            blocks: self.blocks,
+        }
     }
 }

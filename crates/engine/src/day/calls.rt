@@ -7,14 +7,27 @@ ghost use Rattle.market.specs.Blank.{fresh};
 ghost use Rattle.market.specs.Bounds.{minutes-ok, price-ok, net-ok, in-day};
 ghost use Rattle.engine.specs.Days.{Fresh, Recorded, records, shown, with-terms};
 use super::Day;
-use market::records::{Interval, Mark};
+use market::records::Interval;
+use market::records::Mark;
 
-const FRESH: Interval = Interval { price: 0, net: 0, rounded: 0, mark: Mark::Unsettled, remainder: 0 };
+const FRESH: Interval = Interval {
+    price: 0,
+    net: 0,
+    rounded: 0,
+    mark: Mark::Unsettled,
+    remainder: 0,
+};
 
 fn with_terms(record: Interval, price: i32, net: i32, rounded: i32) -> Interval
     ensures { λ r. ⌜ r ≡ with-terms «record» price net rounded ⌝ }
 {
-    Interval { price, net, rounded, mark: record.mark, remainder: record.remainder }
+    Interval {
+        price,
+        net,
+        rounded,
+        mark: record.mark,
+        remainder: record.remainder,
+    }
 }
 
 impl Day {
@@ -22,7 +35,11 @@ impl Day {
         requires { ⌜ minutes-ok minutes ≡ true ⌝ ∗ ⌜ (1 ≤ count) × (count ≤ 100) ⌝ }
         ensures { λ r. ⌜ Fresh minutes count r ⌝ }
     {
-        Day { minutes, count, intervals: [FRESH; 100] }
+        Day {
+            minutes,
+            count,
+            intervals: [FRESH; 100],
+        }
     }
 
     /// The minutes of an interval: 15, 30 or 60.
@@ -43,7 +60,11 @@ impl Day {
     pub fn interval(&self, number: i32) -> Option<Interval>
         ensures { λ r. ⌜ r ≡ shown (now (self .entry)) number ⌝ }
     {
-        if 1 <= number && number as usize <= self.count { Some(self.intervals[number as usize - 1]) } else { None }
+        if 1 <= number && number as usize <= self.count {
+            Some(self.intervals[number as usize - 1])
+        } else {
+            None
+        }
     }
 
     /// The records of the day's intervals, in their order.
