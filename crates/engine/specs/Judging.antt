@@ -14,10 +14,11 @@ use Rattle.market.specs.declared.records.Block.{Block}
 use Rattle.market.specs.declared.refusal.Refusal.{Refusal}
 use Rattle.market.specs.declared.refusal.Refusal.the-variants.{Short}
 use Rattle.market.specs.First.{tests, then}
-use Rattle.market.specs.Balance.{welfare}
-use Rattle.market.specs.Verdict.{verdict-of}
-use Rattle.market.specs.Passes.{Lawful-book, Passes}
-use Rattle.market.specs.Broken.{Broken}
+use Rattle.verdict.specs.Balance.{welfare}
+use Rattle.verdict.specs.Verdict.{verdict-of}
+use Rattle.verdict.specs.Passes.{Lawful-book, Passes}
+use Rattle.verdict.specs.Broken.{Broken}
+use Rattle.verdict.specs.Best.{Best-if-passed}
 use Rattle.engine.specs.declared.day.Day.{Day}
 use Rattle.engine.specs.declared.book.Closed.{Closed}
 use Rattle.engine.specs.declared.book.Pass.{Pass}
@@ -61,6 +62,10 @@ module _ (c : Closed) (d : Day) (os : List Order) (fs : List ℕ) (bs : List Blo
   Paper-judged (Err e) =
       (((Memory-fits c os fs bs gs → ⊥) × (e ≡ Short)) ⊎ (Memory-fits c os fs bs gs × Broken (records d) book-orders fs book-blocks gs e))
       × (Paper-passes → ⊥)
+
+  -- where the paper passes, no other fills of the orders do better, and those that do as well keep every rule too
+  abbrev pub Paper-best : Result ℤ Refusal → Type 0
+  Paper-best r = Best-if-passed (records d) book-orders fs book-blocks gs r
 
 -- the verdict in what judging hands over
 abbrev pub verdict-in : Result Pass Fail → Result ℤ Refusal

@@ -6,8 +6,8 @@ use market::records::Market;
 use market::records::Order;
 use market::records::Side;
 use market::refusal::Refusal;
-use market::verdict::verdict;
 use std::test::*;
+use verdict::verdict;
 
 const WIDEST: [i32; 2] = [i32::MIN, i32::MAX];
 
@@ -205,4 +205,31 @@ fn widest_records() -> Result<(), Fail> {
         check_eq(empty, (18, 1, 0))?;
     }
     Ok(())
+}
+
+// Limits times fills, purchases less sales.
+fn worth(orders: &[Order], fills: &[u32]) -> i64 {
+    let mut sum: i64 = 0;
+    for (order, fill) in orders.iter().zip(fills) {
+        let value = (order.limit as i64).saturating_mul(*fill as i64);
+        sum = match order.side {
+            Side::Sell => sum.saturating_sub(value),
+            Side::Buy => sum.saturating_add(value),
+        };
+    }
+    sum
+}
+
+#[test]
+fn no_balanced_paper_does_better() -> Result<(), Fail> {
+    let day = [interval(5_000, 350)];
+    let orders = [order(Side::Sell, 4_000, 100), order(Side::Sell, 5_000, 50), order(Side::Sell, 5_000, 50), order(Side::Buy, 6_000, 120)];
+    let first = [10_000, 2_350, 0, 12_000];
+    let second = [10_000, 1_000, 1_350, 12_000];
+    let third = [9_000, 3_350, 0, 12_000];
+    check_eq(answer(verdict(&day, &orders, &first, &[], &[])), (0, 0, 20_250_000))?;
+    check_eq(answer(verdict(&day, &orders, &second, &[], &[])), (0, 0, 20_250_000))?;
+    check_eq(answer(verdict(&day, &orders, &third, &[], &[])), (15, 1, 0))?;
+    check_eq(worth(&orders, &second), 20_250_000)?;
+    check_eq(worth(&orders, &third), 19_250_000)
 }

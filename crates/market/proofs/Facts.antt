@@ -17,7 +17,6 @@ use Rattle.market.specs.declared.records.Block.{Block}
 use Rattle.market.specs.declared.records.Order.{Order}
 use Rattle.market.specs.First.{tests}
 use Rattle.market.specs.Bounds.{same, in-day, price-ok, quantity-ok, account-ok, least-ok, span-ok, order-table, order-bounds, block-table, block-bounds}
-use Rattle.market.specs.Rules.{span, within, thousandths}
 
 -- a table of tests that refuses nothing: each test passes
 pub tests-out : (ts : List (Bool × Refusal)) → tests ts ≡ Ok tt → All (λ t. t .0 ≡ true) ts
@@ -65,10 +64,6 @@ sized q e = between-two (pos 1) q (pos 10000) e
 pub shared : (p : ℤ) → least-ok p ≡ true → (pos 1 ≤ℤ p) × (p ≤ℤ pos 100)
 shared p e = between-two (pos 1) p (pos 100) e
 
--- a fill within a lawful quantity
-pub fill-small : (q : ℤ) (f : ℕ) → quantity-ok q ≡ true → within q f ≡ true → f ≤ 1000000
-fill-small q f e w = let s = sized q e in omega (arith, ints)
-
 module _ (n : ℕ) (first last : ℤ) (e : span-ok n first last ≡ true) where
   pub from-first : (pos 1 ≤ℤ first) × (first ≤ℤ pos n)
   from-first = between-two (pos 1) first (pos n) (and-parts (in-day n first) (in-day n last && leZ first last) e .0)
@@ -78,13 +73,6 @@ module _ (n : ℕ) (first last : ℤ) (e : span-ok n first last ≡ true) where
 
   pub first-last : first ≤ℤ last
   first-last = let p = and-parts (in-day n last) (leZ first last) (and-parts (in-day n first) (in-day n last && leZ first last) e .1) .1 in omega (arith, ints)
-
-pub span-small : (n : ℕ) (b : Block) → n ≤ 100 → span-ok n (b .first) (b .last) ≡ true → (pos 1 ≤ℤ span b) × (span b ≤ℤ pos 100)
-span-small n b h e =
-    let p = from-first n (b .first) (b .last) e in
-    let q = to-last n (b .first) (b .last) e in
-    let r = first-last n (b .first) (b .last) e in
-    (omega (arith, ints), omega (arith, ints))
 
 -- ---- the test of equality
 pub same-yes : (a b : ℤ) → a ≡ b → same a b ≡ true

@@ -1,9 +1,1 @@
-pub mod Firsts
-pub mod Eachs
-pub mod Sums
-pub mod Products
 pub mod Facts
-pub mod Judging
-pub mod Keeping
-pub mod Lowests
-pub mod Passing

@@ -1,12 +1,4 @@
 pub mod Refusals
 pub mod First
-pub mod Each
-pub mod Sums
 pub mod Blank
 pub mod Bounds
-pub mod Rules
-pub mod Worths
-pub mod Balance
-pub mod Verdict
-pub mod Passes
-pub mod Broken

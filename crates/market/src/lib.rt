@@ -1,10 +1,5 @@
-// The records of an auction day, the rules of its verdict, and the verdict over slices.
-mod balance;
+// The records of an auction day, the refusals, and the bounds of entry.
 pub mod bounds;
 pub mod records;
 pub mod refusal;
-mod rules;
-pub mod verdict;
-mod walk;
-mod welfare;
 pub mod words;

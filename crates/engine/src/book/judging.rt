@@ -1,6 +1,6 @@
 // Judging a paper on a closed book.
 ghost use mathlib.Core.Path.{_≡_};
-ghost use Rattle.engine.specs.Judging.{memory-ok, judge-answer, Handed, Paper-judged, verdict-in};
+ghost use Rattle.engine.specs.Judging.{memory-ok, judge-answer, Handed, Paper-judged, Paper-best, verdict-in};
 use super::Closed;
 use super::Fail;
 use super::Pass;
@@ -9,7 +9,7 @@ use crate::day::Day;
 use market::records::Block;
 use market::records::Order;
 use market::refusal::Refusal;
-use market::verdict::verdict;
+use verdict::verdict;
 
 impl Closed {
     fn fits(
@@ -37,6 +37,7 @@ impl Closed {
     ) -> Result<i64, Refusal>
         ensures exact { λ r. ⌜ r ≡ judge-answer (now (self .entry)) (now (day .entry)) (now (orders .entry)) (now («order_fills» .entry)) (now (blocks .entry)) (now («block_fills» .entry)) ⌝ }
         ensures judged { λ r. ⌜ Paper-judged (now (self .entry)) (now (day .entry)) (now (orders .entry)) (now («order_fills» .entry)) (now (blocks .entry)) (now («block_fills» .entry)) r ⌝ }
+        ensures best { λ r. ⌜ Paper-best (now (self .entry)) (now (day .entry)) (now (orders .entry)) (now («order_fills» .entry)) (now (blocks .entry)) (now («block_fills» .entry)) r ⌝ }
     {
         if !self.fits(orders, order_fills, blocks, block_fills) {
             return Err(Refusal::Short);
@@ -64,6 +65,7 @@ impl Closed {
         ensures exact { λ r. ⌜ verdict-in r ≡ judge-answer self (now (day .entry)) (now (orders .entry)) (now («order_fills» .entry)) (now (blocks .entry)) (now («block_fills» .entry)) ⌝ }
         ensures hands { λ r. ⌜ Handed self r ⌝ }
         ensures judged { λ r. ⌜ Paper-judged self (now (day .entry)) (now (orders .entry)) (now («order_fills» .entry)) (now (blocks .entry)) (now («block_fills» .entry)) (verdict-in r) ⌝ }
+        ensures best { λ r. ⌜ Paper-best self (now (day .entry)) (now (orders .entry)) (now («order_fills» .entry)) (now (blocks .entry)) (now («block_fills» .entry)) (verdict-in r) ⌝ }
     {
         match self.examine(day, orders, order_fills, blocks, block_fills) {
             Ok(welfare) => Ok(Pass {

@@ -1,0 +1,12 @@
+pub mod Firsts
+pub mod Eachs
+pub mod Sums
+pub mod Products
+pub mod Sizes
+pub mod Judging
+pub mod Keeping
+pub mod Lowests
+pub mod Passing
+pub mod Ring
+pub mod Optimal
+pub mod Rivals

@@ -1,0 +1,10 @@
+pub mod Walks
+pub mod Each
+pub mod Sums
+pub mod Rules
+pub mod Worths
+pub mod Balance
+pub mod Verdict
+pub mod Passes
+pub mod Broken
+pub mod Best
