@@ -223,12 +223,23 @@ fn worth(orders: &[Order], fills: &[u32]) -> i64 {
 #[test]
 fn no_balanced_paper_does_better() -> Result<(), Fail> {
     let day = [interval(5_000, 350)];
-    let orders = [order(Side::Sell, 4_000, 100), order(Side::Sell, 5_000, 50), order(Side::Sell, 5_000, 50), order(Side::Buy, 6_000, 120)];
+    let orders = [
+        order(Side::Sell, 4_000, 100),
+        order(Side::Sell, 5_000, 50),
+        order(Side::Sell, 5_000, 50),
+        order(Side::Buy, 6_000, 120),
+    ];
     let first = [10_000, 2_350, 0, 12_000];
     let second = [10_000, 1_000, 1_350, 12_000];
     let third = [9_000, 3_350, 0, 12_000];
-    check_eq(answer(verdict(&day, &orders, &first, &[], &[])), (0, 0, 20_250_000))?;
-    check_eq(answer(verdict(&day, &orders, &second, &[], &[])), (0, 0, 20_250_000))?;
+    check_eq(
+        answer(verdict(&day, &orders, &first, &[], &[])),
+        (0, 0, 20_250_000),
+    )?;
+    check_eq(
+        answer(verdict(&day, &orders, &second, &[], &[])),
+        (0, 0, 20_250_000),
+    )?;
     check_eq(answer(verdict(&day, &orders, &third, &[], &[])), (15, 1, 0))?;
     check_eq(worth(&orders, &second), 20_250_000)?;
     check_eq(worth(&orders, &third), 19_250_000)
