@@ -1,0 +1,16 @@
+pub mod Earlier
+pub mod Inject
+pub mod Place
+pub mod Ranked
+pub mod Turns
+pub mod Walks
+pub mod Parts
+pub mod Cutting
+pub mod OnlyCuts
+pub mod Rounds
+pub mod OpenCuts
+pub mod Standing
+pub mod TwoStages
+pub mod Remainders
+pub mod Ranking
+pub mod Smallest

@@ -1,0 +1,12 @@
+pub mod Rounding
+pub mod Keys
+pub mod Ranks
+pub mod Ordered
+pub mod Kinds
+pub mod Eligible
+pub mod Numbers
+pub mod Stages
+pub mod Settled
+pub mod StageLaws
+pub mod SettledLaws
+pub mod RankLaws

@@ -1,0 +1,11 @@
+pub mod candidates;
+mod entries;
+mod gather;
+pub mod laws;
+pub mod list;
+mod numbers;
+pub mod open_cuts;
+pub mod rank;
+pub mod rounding;
+pub mod settled;
+pub mod stage;
