@@ -1,8 +1,8 @@
 -- The two kinds of entries of a book, as the cuts see them.
-use mathlib.Core.Bool.{Bool, _&&_}
+use mathlib.Core.Bool.{Bool}
 use Prim.Native.Nat.{ℕ}
 use lib.IntN.{ℤ, pos, negℤ}
-use lib.Signed.{leZ}
+use Rattle.market.specs.Bounds.{same, within-range}
 use Rattle.market.specs.declared.records.Side.{Side}
 use Rattle.market.specs.declared.records.Side.the-variants.{Sell, Buy}
 use Rattle.market.specs.declared.records.Order.{Order}
@@ -18,11 +18,11 @@ pub record Kind (X : Type 0) : Type 0 where
 
 -- an order is of one interval
 abbrev pub orders : Kind Order
-orders = record { side = λ o. o .side; covers = λ o i. leZ (o .interval) (pos i) && leZ (pos i) (o .interval); quantity = λ o. o .quantity }
+orders = record { side = λ o. o .side; covers = λ o i. same (o .interval) (pos i); quantity = λ o. o .quantity }
 
 -- a block is of each interval from its first to its last
 abbrev pub blocks : Kind Block
-blocks = record { side = λ b. b .side; covers = λ b i. leZ (b .first) (pos i) && leZ (pos i) (b .last); quantity = λ b. b .quantity }
+blocks = record { side = λ b. b .side; covers = λ b i. within-range (b .first) (b .last) (pos i); quantity = λ b. b .quantity }
 
 -- a sell ranks by the lower limit, a buy by the higher
 abbrev pub price-key : Side → ℤ → ℤ

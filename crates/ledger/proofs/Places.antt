@@ -1,25 +1,19 @@
 -- A model by places: what stands where, what a posting writes, and how far its sum can go.
-use mathlib.Core.Path.{_≡_, refl, sym, ap, _∙_}
+use mathlib.Core.Path.{_≡_, refl, ap, _∙_}
 use mathlib.Core.List.{List, [], _∷_}
-use mathlib.Core.Bool.{Bool, true, false, cond}
 use Prim.Native.Nat.{ℕ, zero, suc, _+_, _-_, _<_, _≤_}
 use native.Mathlib.Omega.{arith}
 use lib.IntN.{ℤ, pos, _+ℤ_}
-use lib.Dec.{eqb}
 use lib.ListN.{length, getD, set, drop}
 use borrow.Author.Tests.{eq-eqb, ne-eqb, lt-ltb, le-leb, lt-leb}
 use Rattle.std.proofs.shelf.Lists.{drop-more, drop-all}
 use Rattle.std.proofs.shelf.Signed.{ints}
-use Rattle.std.specs.declared.option.Option.{Option}
 use Rattle.std.specs.declared.option.Option.the-variants.{Some, None}
 use Rattle.ledger.specs.declared.account.Account.{Account}
 use Rattle.ledger.specs.Model.{numbers, blank, Sound, From, Lawful, find, moved, posted, numberAt, balanceIn, balanceOf, total}
 
 pub number-in : (m : List Account) (p : ℕ) → 0 < p → p ≤ length m → numberAt m p ≡ Some (getD m (p - 1) blank .number)
 number-in m p h k = rw (lt-ltb 0 p h, le-leb p (length m) k)
-
-pub number-zero : (m : List Account) → numberAt m 0 ≡ None
-number-zero m = refl
 
 pub number-past : (m : List Account) (p : ℕ) → length m < p → numberAt m p ≡ None
 number-past m p h = rw (lt-ltb 0 p (omega arith), lt-leb p (length m) h)

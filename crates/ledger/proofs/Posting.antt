@@ -2,7 +2,7 @@
 use mathlib.Core.Path.{_≡_, refl, sym, ap, subst, _∙_}
 use mathlib.Core.List.{List, [], _∷_}
 use mathlib.Core.Bool.{Bool, true, false, cond, _&&_}
-use Prim.Native.Nat.{ℕ, suc, _<_, _≤_}
+use Prim.Native.Nat.{ℕ, suc}
 use native.Mathlib.Omega.{arith}
 use borrow.Author.Tests.{clash, ne-eqb, eqb-true}
 use lib.IntN.{ℤ, pos, _+ℤ_, negℤ, +ℤ-negℤ-cancel}
@@ -16,8 +16,8 @@ use Rattle.std.specs.declared.result.Result.the-variants.{Ok, Err}
 use Rattle.ledger.specs.declared.account.Account.{Account}
 use Rattle.ledger.specs.declared.refusal.PostRefused.{PostRefused}
 use Rattle.ledger.specs.declared.refusal.PostRefused.the-variants.{NotOpen, OutOfBounds}
-use Rattle.ledger.specs.Model.{limit, Sound, From, Lawful, find, within, moved, answerAt, answer, posted, ifTaken, after, total}
-use Rattle.ledger.specs.Laws.{Between, Taken, Closed, Beyond, Says}
+use Rattle.ledger.specs.Model.{Sound, From, Lawful, find, within, moved, answerAt, answer, posted, ifTaken, after, total}
+use Rattle.ledger.specs.Laws.{Between, Says}
 
 -- the goal at each answer of a test
 pub by-test : (b : Bool) (P : Bool → Type 0) → (b ≡ true → P true) → (b ≡ false → P false) → P b
@@ -55,7 +55,7 @@ after-refused m n x why e = rw e
 pub by-answer : (P : List Account → Type 0) (m : List Account) (n : ℕ) (x : ℤ) → (answer m n x ≡ Ok tt → P (posted m n x)) → P m → P (after m n x)
 by-answer P m n x taken same =
     let each : (r : Result (Unit {0}) PostRefused) → (r ≡ Ok tt → P (posted m n x)) → P (ifTaken r (posted m n x) m) =
-        λ r. elim r as (λ r. (r ≡ Ok tt → P (posted m n x)) → P (ifTaken r (posted m n x) m)) [ Ok _ ↦ λ t. t refl | Err _ ↦ λ t. same ] in
+    λ r. elim r as (λ r. (r ≡ Ok tt → P (posted m n x)) → P (ifTaken r (posted m n x) m)) [ Ok _ ↦ λ t. t refl | Err _ ↦ λ t. same ] in
     each (answer m n x) taken
 
 -- each answer says what holds
@@ -63,8 +63,8 @@ module _ (m : List Account) (n : ℕ) (x : ℤ) where
   opened-says : (a : Account) → find m n ≡ Some a → Says m n x (answerAt (Some a) n x)
   opened-says a e =
       by-test (within a (a .balance +ℤ x)) (λ b. Says m n x (cond b (Ok tt) (Err (OutOfBounds n))))
-        (λ w. record { account = a; opened = e; between = within-between a (a .balance +ℤ x) w })
-        (λ w. record { same = refl; account = a; opened = e; outside = λ h. clash (sym w ∙ between-within a (a .balance +ℤ x) h) })
+      (λ w. record { account = a; opened = e; between = within-between a (a .balance +ℤ x) w })
+      (λ w. record { same = refl; account = a; opened = e; outside = λ h. clash (sym w ∙ between-within a (a .balance +ℤ x) h) })
 
   found-says : (o : Option Account) → find m n ≡ o → Says m n x (answerAt o n x)
   found-says None e = record { same = refl; absent = e }
@@ -88,17 +88,17 @@ total-posted [] n x e = grind arith
 total-posted (a ∷ rest) n x e =
     let again : answer rest n x ≡ Ok tt → total (posted rest n x) ≡ total rest +ℤ x = total-posted rest n x in
     by-test (eqb (a .number) n) (λ b. answerAt (cond b (Some a) (find rest n)) n x ≡ Ok tt → total (cond b (moved a x ∷ rest) (a ∷ posted rest n x)) ≡ (a .balance +ℤ total rest) +ℤ x)
-      (λ _ _. omega (arith, ints))
-      (λ _ h. let k = again h in omega (arith, ints))
-      e
+    (λ _ _. omega (arith, ints))
+    (λ _ h. let k = again h in omega (arith, ints))
+    e
 
 -- every other account
 pub find-posted : (m : List Account) (n : ℕ) (x : ℤ) (k : ℕ) → (k ≡ n → ⊥) → find (posted m n x) k ≡ find m k
 find-posted [] n x k ne = refl
 find-posted (a ∷ rest) n x k ne =
     by-test (eqb (a .number) n) (λ b. find (cond b (moved a x ∷ rest) (a ∷ posted rest n x)) k ≡ find (a ∷ rest) k)
-      (λ e. rw (ne-eqb (a .number) k (λ z. ne (sym z ∙ eqb-true (a .number) n e))))
-      (λ _. ap (cond (eqb (a .number) k) (Some a)) (find-posted rest n x k ne))
+    (λ e. rw (ne-eqb (a .number) k (λ z. ne (sym z ∙ eqb-true (a .number) n e))))
+    (λ _. ap (cond (eqb (a .number) k) (Some a)) (find-posted rest n x k ne))
 
 -- the laws stay
 sound-moved : (a : Account) (n : ℕ) (x : ℤ) → Sound a → answerAt (Some a) n x ≡ Ok tt → Sound (moved a x)
@@ -110,9 +110,9 @@ pub from-posted : (least : ℕ) (m : List Account) (n : ℕ) (x : ℤ) → From 
 from-posted least [] n x f e = tt
 from-posted least (a ∷ rest) n x (k, s, f) e =
     by-test (eqb (a .number) n) (λ b. answerAt (cond b (Some a) (find rest n)) n x ≡ Ok tt → From least (cond b (moved a x ∷ rest) (a ∷ posted rest n x)))
-      (λ _ h. (k, sound-moved a n x s h, f))
-      (λ _ h. (k, s, from-posted (suc (a .number)) rest n x f h))
-      e
+    (λ _ h. (k, sound-moved a n x s h, f))
+    (λ _ h. (k, s, from-posted (suc (a .number)) rest n x f h))
+    e
 
 pub lawful-posted : (m : List Account) (n : ℕ) (x : ℤ) → Lawful m → answer m n x ≡ Ok tt → Lawful (posted m n x)
 lawful-posted m n x f e = from-posted 0 m n x f e
@@ -125,9 +125,9 @@ posted-back : (m : List Account) (n : ℕ) (x : ℤ) → posted (posted m n x) n
 posted-back [] n x = refl
 posted-back (a ∷ rest) n x =
     by-test (eqb (a .number) n) (λ b. eqb (a .number) n ≡ b → posted (cond b (moved a x ∷ rest) (a ∷ posted rest n x)) n (negℤ x) ≡ a ∷ rest)
-      (λ _ h. rw h (ap (λ z. z ∷ rest) (moved-back a x)))
-      (λ _ h. rw h (ap (λ l. a ∷ l) (posted-back rest n x)))
-      refl
+    (λ _ h. rw h (ap (λ z. z ∷ rest) (moved-back a x)))
+    (λ _ h. rw h (ap (λ l. a ∷ l) (posted-back rest n x)))
+    refl
 
 back-within : (a : Account) (x : ℤ) → Sound a → within (moved a x) ((a .balance +ℤ x) +ℤ negℤ x) ≡ true
 back-within a x s = rw (+ℤ-negℤ-cancel (a .balance) x) (between-within a (a .balance) (s .above, s .under))
@@ -136,9 +136,9 @@ from-back : (least : ℕ) (m : List Account) (n : ℕ) (x : ℤ) → From least 
 from-back least [] n x f e = grind arith
 from-back least (a ∷ rest) n x (k, s, f) e =
     by-test (eqb (a .number) n) (λ b. eqb (a .number) n ≡ b → answerAt (cond b (Some a) (find rest n)) n x ≡ Ok tt → answer (cond b (moved a x ∷ rest) (a ∷ posted rest n x)) n (negℤ x) ≡ Ok tt)
-      (λ _ t h. rw (t, back-within a x s))
-      (λ _ t h. rw t (from-back (suc (a .number)) rest n x f h))
-      refl e
+    (λ _ t h. rw (t, back-within a x s))
+    (λ _ t h. rw t (from-back (suc (a .number)) rest n x f h))
+    refl e
 
 -- what was posted can be posted back
 pub back-taken : (m : List Account) (n : ℕ) (x : ℤ) → Lawful m → answer m n x ≡ Ok tt → answer (posted m n x) n (negℤ x) ≡ Ok tt
@@ -153,9 +153,9 @@ from-small : (least : ℕ) (m : List Account) (n : ℕ) (x : ℤ) → From least
 from-small least [] n x f e = grind arith
 from-small least (a ∷ rest) n x (k, s, f) e =
     by-test (eqb (a .number) n) (λ b. answerAt (cond b (Some a) (find rest n)) n x ≡ Ok tt → (negℤ (pos 20000000000000000) ≤ℤ x) × (x ≤ℤ pos 20000000000000000))
-      (λ _ h. let t = sound-moved a n x s h in (omega (arith, ints), omega (arith, ints)))
-      (λ _ h. from-small (suc (a .number)) rest n x f h)
-      e
+    (λ _ h. let t = sound-moved a n x s h in (omega (arith, ints), omega (arith, ints)))
+    (λ _ h. from-small (suc (a .number)) rest n x f h)
+    e
 
 pub taken-small : (m : List Account) (n : ℕ) (x : ℤ) → Lawful m → answer m n x ≡ Ok tt → (negℤ (pos 20000000000000000) ≤ℤ x) × (x ≤ℤ pos 20000000000000000)
 taken-small m n x f e = from-small 0 m n x f e

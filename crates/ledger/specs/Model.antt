@@ -1,7 +1,6 @@
 -- A ledger's open accounts as an ascending list, and what reading and posting mean on it.
-use mathlib.Core.Path.{_≡_}
 use mathlib.Core.List.{List, [], _∷_}
-use mathlib.Core.Bool.{Bool, true, false, cond, _&&_}
+use mathlib.Core.Bool.{Bool, cond, _&&_}
 use Prim.Native.Nat.{ℕ, suc, _-_, _<_, _≤_}
 use lib.IntN.{ℤ, pos, _+ℤ_, negℤ}
 use lib.Signed.{_≤ℤ_, leZ}

@@ -2,6 +2,9 @@
 ghost use mathlib.Core.Path.{_≡_};
 ghost use Rattle.ledger.specs.Model.{raised};
 
+/// The widest bounds of a balance, either way, in grains.
+pub const LIMIT: i64 = 10_000_000_000_000_000;
+
 /// An account: its number, its balance and the bounds of its balance, in grains.
 #[derive(Clone, Copy, PartialEq, Eq, Debug)]
 pub struct Account {

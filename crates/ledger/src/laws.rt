@@ -9,5 +9,4 @@ pub fn laws_stand()
     ensures others { λ _. ⌜ Others-stay ⌝ }
     ensures moves { λ _. ⌜ Moves-total ⌝ }
     ensures returns { λ _. ⌜ Comes-back ⌝ }
-{
-}
+{}

@@ -15,6 +15,7 @@ pub use account::Account;
 pub use account::AccountDebug;
 pub use account::AccountEq;
 pub use account::AccountPartialEq;
+pub use account::LIMIT;
 pub use laws::laws_stand;
 pub use lent::LentAccounts;
 pub use lent::LentLedger;

@@ -3,6 +3,7 @@ ghost use mathlib.Core.Path.{_≡_};
 ghost use Rattle.ledger.specs.Refusals.{numberOf, placeOf};
 
 const NOT_OPEN: u32 = 20;
+
 const OUT_OF_BOUNDS: u32 = 21;
 
 /// Why a posting is refused, with the account that it was for.

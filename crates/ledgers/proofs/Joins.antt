@@ -1,7 +1,7 @@
 -- What a joined model holds, and what a posting to it does.
-use mathlib.Core.Path.{_≡_, refl, sym, ap, subst, _∙_}
+use mathlib.Core.Path.{_≡_, refl, sym, ap, _∙_}
 use mathlib.Core.List.{List, [], _∷_, _++_}
-use mathlib.Core.Bool.{Bool, true, false, cond}
+use mathlib.Core.Bool.{true, false, cond}
 use Prim.Native.Nat.{ℕ, zero, suc, _+_, _-_, _<_, _≤_}
 use native.Mathlib.Omega.{arith}
 use lib.Dec.{ltb, leb, eqb}
@@ -10,7 +10,6 @@ use lib.ListN.{length, getD}
 use borrow.Author.Tests.{ltb-true, ltb-false, leb-true, leb-false, ne-eqb, lt-ltb, le-ltb}
 use Rattle.std.proofs.shelf.Lists.{length-append, getD-append-left, getD-append-add}
 use Rattle.std.proofs.shelf.Signed.{ints}
-use Rattle.std.specs.declared.option.Option.{Option}
 use Rattle.std.specs.declared.option.Option.the-variants.{Some, None}
 use Rattle.std.specs.declared.result.Result.{Result}
 use Rattle.std.specs.declared.result.Result.the-variants.{Ok, Err}
@@ -34,73 +33,73 @@ pub split-at-border : (b : ℕ) (m : List Account) → below b m ++ fromOn b m �
 split-at-border b [] = refl
 split-at-border b (a ∷ rest) =
     by-test (ltb (a .number) b) (λ t. cond t (a ∷ below b rest) [] ++ cond t (fromOn b rest) (a ∷ rest) ≡ a ∷ rest)
-      (λ _. ap (λ l. a ∷ l) (split-at-border b rest))
-      (λ _. refl)
+    (λ _. ap (λ l. a ∷ l) (split-at-border b rest))
+    (λ _. refl)
 
 find-on : (b : ℕ) (k : List Account) (n : ℕ) → b ≤ n → find (fromOn b k) n ≡ find k n
 find-on b [] n h = refl
 find-on b (a ∷ rest) n h =
     by-test (ltb (a .number) b) (λ t. find (cond t (fromOn b rest) (a ∷ rest)) n ≡ find (a ∷ rest) n)
-      (λ e. let lt = ltb-true (a .number) b e in find-on b rest n h ∙ (rw (ne-eqb (a .number) n (λ z. omega arith))))
-      (λ _. refl)
+    (λ e. let lt = ltb-true (a .number) b e in find-on b rest n h ∙ (rw (ne-eqb (a .number) n (λ z. omega arith))))
+    (λ _. refl)
 
 pub find-low : (b least l : ℕ) (m k : List Account) (n : ℕ) → From least m → From l k → n < b → find (join b m k) n ≡ find m n
 find-low b least l [] k n f g h = find-less b (fromOn b k) n (from-on b b l k (omega arith) g) h
 find-low b least l (a ∷ rest) k n (q, s, f) g h =
     by-test (ltb (a .number) b) (λ t. find (cond t (a ∷ below b rest) [] ++ fromOn b k) n ≡ find (a ∷ rest) n)
-      (λ _. ap (cond (eqb (a .number) n) (Some a)) (find-low b (suc (a .number)) l rest k n f g h))
-      (λ e. find-less b (fromOn b k) n (from-on b b l k (omega arith) g) h ∙ sym (find-less b (a ∷ rest) n (ltb-false (a .number) b e, s, f) h))
+    (λ _. ap (cond (eqb (a .number) n) (Some a)) (find-low b (suc (a .number)) l rest k n f g h))
+    (λ e. find-less b (fromOn b k) n (from-on b b l k (omega arith) g) h ∙ sym (find-less b (a ∷ rest) n (ltb-false (a .number) b e, s, f) h))
 
 pub find-high : (b : ℕ) (m k : List Account) (n : ℕ) → b ≤ n → find (join b m k) n ≡ find k n
 find-high b [] k n h = find-on b k n h
 find-high b (a ∷ rest) k n h =
     by-test (ltb (a .number) b) (λ t. find (cond t (a ∷ below b rest) [] ++ fromOn b k) n ≡ find k n)
-      (λ e. let lt = ltb-true (a .number) b e in rw (ne-eqb (a .number) n (λ z. omega arith)) (find-high b rest k n h))
-      (λ _. find-on b k n h)
+    (λ e. let lt = ltb-true (a .number) b e in rw (ne-eqb (a .number) n (λ z. omega arith)) (find-high b rest k n h))
+    (λ _. find-on b k n h)
 
 posted-on : (b : ℕ) (k : List Account) (n : ℕ) (x : ℤ) → b ≤ n → posted (fromOn b k) n x ≡ fromOn b (posted k n x)
 posted-on b [] n x h = refl
 posted-on b (a ∷ rest) n x h =
     by-test (ltb (a .number) b) (λ t. ltb (a .number) b ≡ t → posted (cond t (fromOn b rest) (a ∷ rest)) n x ≡ fromOn b (posted (a ∷ rest) n x))
-      (λ _ e. let lt = ltb-true (a .number) b e in rw (ne-eqb (a .number) n (λ z. omega arith), e) (posted-on b rest n x h))
-      (λ _ e. by-test (eqb (a .number) n) (λ t. cond t (moved a x ∷ rest) (a ∷ posted rest n x) ≡ fromOn b (cond t (moved a x ∷ rest) (a ∷ posted rest n x))) (λ _. rw e) (λ _. rw e))
-      refl
+    (λ _ e. let lt = ltb-true (a .number) b e in rw (ne-eqb (a .number) n (λ z. omega arith), e) (posted-on b rest n x h))
+    (λ _ e. by-test (eqb (a .number) n) (λ t. cond t (moved a x ∷ rest) (a ∷ posted rest n x) ≡ fromOn b (cond t (moved a x ∷ rest) (a ∷ posted rest n x))) (λ _. rw e) (λ _. rw e))
+    refl
 
 pub posted-low : (b least l : ℕ) (m k : List Account) (n : ℕ) (x : ℤ) → From least m → From l k → n < b → posted (join b m k) n x ≡ join b (posted m n x) k
 posted-low b least l [] k n x f g h = posted-less b (fromOn b k) n x (from-on b b l k (omega arith) g) h
 posted-low b least l (a ∷ rest) k n x (q, s, f) g h =
     by-test (ltb (a .number) b) (λ t. ltb (a .number) b ≡ t → posted (cond t (a ∷ below b rest) [] ++ fromOn b k) n x ≡ join b (posted (a ∷ rest) n x) k)
-      (λ _ e. by-test (eqb (a .number) n) (λ t. cond t (moved a x ∷ join b rest k) (a ∷ posted (join b rest k) n x) ≡ join b (cond t (moved a x ∷ rest) (a ∷ posted rest n x)) k)
-        (λ _. rw e)
-        (λ _. rw e (ap (λ l. a ∷ l) (posted-low b (suc (a .number)) l rest k n x f g h))))
-      (λ _ e. posted-less b (fromOn b k) n x (from-on b b l k (omega arith) g) h
-        ∙ sym (ap (λ z. join b z k) (posted-less b (a ∷ rest) n x (ltb-false (a .number) b e, s, f) h) ∙ rw e))
-      refl
+    (λ _ e. by-test (eqb (a .number) n) (λ t. cond t (moved a x ∷ join b rest k) (a ∷ posted (join b rest k) n x) ≡ join b (cond t (moved a x ∷ rest) (a ∷ posted rest n x)) k)
+    (λ _. rw e)
+    (λ _. rw e (ap (λ l. a ∷ l) (posted-low b (suc (a .number)) l rest k n x f g h))))
+    (λ _ e. posted-less b (fromOn b k) n x (from-on b b l k (omega arith) g) h
+    ∙ sym (ap (λ z. join b z k) (posted-less b (a ∷ rest) n x (ltb-false (a .number) b e, s, f) h) ∙ rw e))
+    refl
 
 pub posted-high : (b : ℕ) (m k : List Account) (n : ℕ) (x : ℤ) → b ≤ n → posted (join b m k) n x ≡ join b m (posted k n x)
 posted-high b [] k n x h = posted-on b k n x h
 posted-high b (a ∷ rest) k n x h =
     by-test (ltb (a .number) b) (λ t. posted (cond t (a ∷ below b rest) [] ++ fromOn b k) n x ≡ cond t (a ∷ below b rest) [] ++ fromOn b (posted k n x))
-      (λ e. let lt = ltb-true (a .number) b e in rw (ne-eqb (a .number) n (λ z. omega arith)) (ap (λ l. a ∷ l) (posted-high b rest k n x h)))
-      (λ _. posted-on b k n x h)
+    (λ e. let lt = ltb-true (a .number) b e in rw (ne-eqb (a .number) n (λ z. omega arith)) (ap (λ l. a ∷ l) (posted-high b rest k n x h)))
+    (λ _. posted-on b k n x h)
 
 on-posted : (b least : ℕ) (m : List Account) (n : ℕ) (x : ℤ) → From least m → n < b → fromOn b (posted m n x) ≡ fromOn b m
 on-posted b least [] n x f h = refl
 on-posted b least (a ∷ rest) n x (q, s, f) h =
     by-test (ltb (a .number) b) (λ t. ltb (a .number) b ≡ t → fromOn b (posted (a ∷ rest) n x) ≡ fromOn b (a ∷ rest))
-      (λ _ e. by-test (eqb (a .number) n) (λ t. fromOn b (cond t (moved a x ∷ rest) (a ∷ posted rest n x)) ≡ fromOn b (a ∷ rest))
-        (λ _. rw e)
-        (λ _. rw e (on-posted b (suc (a .number)) rest n x f h)))
-      (λ _ e. ap (fromOn b) (posted-less b (a ∷ rest) n x (ltb-false (a .number) b e, s, f) h))
-      refl
+    (λ _ e. by-test (eqb (a .number) n) (λ t. fromOn b (cond t (moved a x ∷ rest) (a ∷ posted rest n x)) ≡ fromOn b (a ∷ rest))
+    (λ _. rw e)
+    (λ _. rw e (on-posted b (suc (a .number)) rest n x f h)))
+    (λ _ e. ap (fromOn b) (posted-less b (a ∷ rest) n x (ltb-false (a .number) b e, s, f) h))
+    refl
 
 below-posted : (b : ℕ) (k : List Account) (n : ℕ) (x : ℤ) → b ≤ n → below b (posted k n x) ≡ below b k
 below-posted b [] n x h = refl
 below-posted b (a ∷ rest) n x h =
     by-test (ltb (a .number) b) (λ t. ltb (a .number) b ≡ t → below b (posted (a ∷ rest) n x) ≡ cond t (a ∷ below b rest) [])
-      (λ _ e. let lt = ltb-true (a .number) b e in rw (ne-eqb (a .number) n (λ z. omega arith), e) (ap (λ l. a ∷ l) (below-posted b rest n x h)))
-      (λ _ e. by-test (eqb (a .number) n) (λ t. below b (cond t (moved a x ∷ rest) (a ∷ posted rest n x)) ≡ []) (λ _. rw e) (λ _. rw e))
-      refl
+    (λ _ e. let lt = ltb-true (a .number) b e in rw (ne-eqb (a .number) n (λ z. omega arith), e) (ap (λ l. a ∷ l) (below-posted b rest n x h)))
+    (λ _ e. by-test (eqb (a .number) n) (λ t. below b (cond t (moved a x ∷ rest) (a ∷ posted rest n x)) ≡ []) (λ _. rw e) (λ _. rw e))
+    refl
 
 -- a posting below the border
 module _ (b : ℕ) (m k : List Account) (n : ℕ) (x : ℤ) (f : Lawful m) (g : Lawful k) (h : n < b) where
@@ -110,13 +109,13 @@ module _ (b : ℕ) (m k : List Account) (n : ℕ) (x : ℤ) (f : Lawful m) (g : 
   pub low-after : join b (after m n x) k ≡ after (join b m k) n x
   low-after =
       let by-answer : (r : Result (Unit {0}) PostRefused) → join b (ifTaken r (posted m n x) m) k ≡ ifTaken r (posted (join b m k) n x) (join b m k) =
-          λ r. elim r as (λ r. join b (ifTaken r (posted m n x) m) k ≡ ifTaken r (posted (join b m k) n x) (join b m k)) [ Ok _ ↦ sym (posted-low b 0 0 m k n x f g h) | Err _ ↦ refl ] in
+      λ r. elim r as (λ r. join b (ifTaken r (posted m n x) m) k ≡ ifTaken r (posted (join b m k) n x) (join b m k)) [ Ok _ ↦ sym (posted-low b 0 0 m k n x f g h) | Err _ ↦ refl ] in
       by-answer (answer m n x) ∙ ap (λ r. ifTaken r (posted (join b m k) n x) (join b m k)) (sym low-answer)
 
   pub low-keeps : fromOn b m ≡ fromOn b (after m n x)
   low-keeps =
       let by-answer : (r : Result (Unit {0}) PostRefused) → fromOn b m ≡ fromOn b (ifTaken r (posted m n x) m) =
-          λ r. elim r as (λ r. fromOn b m ≡ fromOn b (ifTaken r (posted m n x) m)) [ Ok _ ↦ sym (on-posted b 0 m n x f h) | Err _ ↦ refl ] in
+      λ r. elim r as (λ r. fromOn b m ≡ fromOn b (ifTaken r (posted m n x) m)) [ Ok _ ↦ sym (on-posted b 0 m n x f h) | Err _ ↦ refl ] in
       by-answer (answer m n x)
 
 -- a posting from the border on
@@ -127,13 +126,13 @@ module _ (b : ℕ) (m k : List Account) (n : ℕ) (x : ℤ) (h : b ≤ n) where
   pub high-after : join b m (after k n x) ≡ after (join b m k) n x
   high-after =
       let by-answer : (r : Result (Unit {0}) PostRefused) → join b m (ifTaken r (posted k n x) k) ≡ ifTaken r (posted (join b m k) n x) (join b m k) =
-          λ r. elim r as (λ r. join b m (ifTaken r (posted k n x) k) ≡ ifTaken r (posted (join b m k) n x) (join b m k)) [ Ok _ ↦ sym (posted-high b m k n x h) | Err _ ↦ refl ] in
+      λ r. elim r as (λ r. join b m (ifTaken r (posted k n x) k) ≡ ifTaken r (posted (join b m k) n x) (join b m k)) [ Ok _ ↦ sym (posted-high b m k n x h) | Err _ ↦ refl ] in
       by-answer (answer k n x) ∙ ap (λ r. ifTaken r (posted (join b m k) n x) (join b m k)) (sym high-answer)
 
   pub high-keeps : below b k ≡ below b (after k n x)
   high-keeps =
       let by-answer : (r : Result (Unit {0}) PostRefused) → below b k ≡ below b (ifTaken r (posted k n x) k) =
-          λ r. elim r as (λ r. below b k ≡ below b (ifTaken r (posted k n x) k)) [ Ok _ ↦ sym (below-posted b k n x h) | Err _ ↦ refl ] in
+      λ r. elim r as (λ r. below b k ≡ below b (ifTaken r (posted k n x) k)) [ Ok _ ↦ sym (below-posted b k n x h) | Err _ ↦ refl ] in
       by-answer (answer k n x)
 
 -- how many
@@ -156,9 +155,9 @@ number-right xs ys p =
     let q = length xs + suc p in
     let e : q - 1 ≡ length xs + (suc p - 1) = omega arith in
     by-test (leb (suc p) (length ys)) (λ b. numberAt (xs ++ ys) q ≡ numberAt ys (suc p))
-      (λ t. let le = leb-true (suc p) (length ys) t in
-        number-in (xs ++ ys) q (omega arith) (omega arith) ∙ ap (λ j. Some (getD (xs ++ ys) j blank .number)) e ∙ ap (λ a. Some (a .number)) (getD-append-add xs ys (suc p - 1) blank) ∙ sym (number-in ys (suc p) (omega arith) le))
-      (λ t. let lt = leb-false (suc p) (length ys) t in number-past (xs ++ ys) q (omega arith) ∙ sym (number-past ys (suc p) lt))
+    (λ t. let le = leb-true (suc p) (length ys) t in
+    number-in (xs ++ ys) q (omega arith) (omega arith) ∙ ap (λ j. Some (getD (xs ++ ys) j blank .number)) e ∙ ap (λ a. Some (a .number)) (getD-append-add xs ys (suc p - 1) blank) ∙ sym (number-in ys (suc p) (omega arith) le))
+    (λ t. let lt = leb-false (suc p) (length ys) t in number-past (xs ++ ys) q (omega arith) ∙ sym (number-past ys (suc p) lt))
 
 pub place-low : (b : ℕ) (m k : List Account) (p : ℕ) → p ≤ length (below b m) → numberAt (join b m k) p ≡ numberAt m p
 place-low b m k p h = number-left (below b m) (fromOn b k) p h ∙ sym (number-left (below b m) (fromOn b m) p h) ∙ ap (λ l. numberAt l p) (split-at-border b m)
@@ -185,8 +184,8 @@ from-border b [] i d h le = absurd (omega arith)
 from-border b (a ∷ rest) zero d h le = rw (le-ltb (a .number) b le) (omega arith)
 from-border b (a ∷ rest) (suc i) d h le =
     by-test (ltb (a .number) b) (λ t. length (cond t (a ∷ below b rest) []) ≤ suc i)
-      (λ _. let again = from-border b rest i d (omega arith) le in omega arith)
-      (λ _. omega arith)
+    (λ _. let again = from-border b rest i d (omega arith) le in omega arith)
+    (λ _. omega arith)
 
 -- what reading a place told
 lies-is : (b : ℕ) (m : List Account) (i : ℕ) → i < length m → isBelow b (numberAt m (i + 1)) ≡ ltb (getD m i blank .number) b
@@ -212,8 +211,8 @@ join-total b m k = total-append (below b m) (fromOn b k)
 pub join-finds : (b : ℕ) (m k : List Account) (n : ℕ) → Lawful m → Lawful k → find (join b m k) n ≡ cond (ltb n b) (find m n) (find k n)
 join-finds b m k n f g =
     by-test (ltb n b) (λ t. find (join b m k) n ≡ cond t (find m n) (find k n))
-      (λ e. find-low b 0 0 m k n f g (ltb-true n b e))
-      (λ e. find-high b m k n (ltb-false n b e))
+    (λ e. find-low b 0 0 m k n f g (ltb-true n b e))
+    (λ e. find-high b m k n (ltb-false n b e))
 
 -- a joined model taken apart again
 none-below : (b : ℕ) (k : List Account) → below b (fromOn b k) ≡ []
@@ -230,21 +229,22 @@ below-join : (b : ℕ) (m k : List Account) → below b (join b m k) ≡ below b
 below-join b [] k = none-below b k
 below-join b (a ∷ rest) k =
     by-test (ltb (a .number) b) (λ t. ltb (a .number) b ≡ t → below b (cond t (a ∷ below b rest) [] ++ fromOn b k) ≡ cond t (a ∷ below b rest) [])
-      (λ _ e. rw e (ap (λ l. a ∷ l) (below-join b rest k)))
-      (λ _ e. none-below b k)
-      refl
+    (λ _ e. rw e (ap (λ l. a ∷ l) (below-join b rest k)))
+    (λ _ e. none-below b k)
+    refl
 
 from-join-on : (b : ℕ) (m k : List Account) → fromOn b (join b m k) ≡ fromOn b k
 from-join-on b [] k = all-from b k
 from-join-on b (a ∷ rest) k =
     by-test (ltb (a .number) b) (λ t. ltb (a .number) b ≡ t → fromOn b (cond t (a ∷ below b rest) [] ++ fromOn b k) ≡ fromOn b k)
-      (λ _ e. rw e (from-join-on b rest k))
-      (λ _ e. all-from b k)
-      refl
+    (λ _ e. rw e (from-join-on b rest k))
+    (λ _ e. all-from b k)
+    refl
 
 pub halves-stay : (b : ℕ) (m m′ k k′ : List Account) → join b m′ k′ ≡ join b m k → fromOn b m ≡ fromOn b m′ → below b k ≡ below b k′ → (m′ ≡ m) × (k′ ≡ k)
 halves-stay b m m′ k k′ e f g =
     let low : below b m′ ≡ below b m = sym (below-join b m′ k′) ∙ ap (below b) e ∙ below-join b m k in
-    let high : fromOn b k′ ≡ fromOn b k = sym (from-join-on b m′ k′) ∙ ap (fromOn b) e ∙ from-join-on b m k in
-    (sym (split-at-border b m′) ∙ ap (λ l. l ++ fromOn b m′) low ∙ ap (λ l. below b m ++ l) (sym f) ∙ split-at-border b m,
-     sym (split-at-border b k′) ∙ ap (λ l. l ++ fromOn b k′) (sym g) ∙ ap (λ l. below b k ++ l) high ∙ split-at-border b k)
+    let high : fromOn b k′ ≡ fromOn b k = sym (from-join-on b m′ k′) ∙ ap (fromOn b) e ∙ from-join-on b m k in (
+      sym (split-at-border b m′) ∙ ap (λ l. l ++ fromOn b m′) low ∙ ap (λ l. below b m ++ l) (sym f) ∙ split-at-border b m,
+      sym (split-at-border b k′) ∙ ap (λ l. l ++ fromOn b k′) (sym g) ∙ ap (λ l. below b k ++ l) high ∙ split-at-border b k,
+    )

@@ -1,20 +1,20 @@
 -- The run is the longest, the check tells where it ends, and a posting leaves the other records.
 use mathlib.Core.Path.{_≡_, refl, sym, ap, subst, _∙_}
 use mathlib.Core.List.{List, [], _∷_, _++_}
-use mathlib.Core.Bool.{Bool, true, false, cond, _&&_}
-use Prim.Native.Nat.{ℕ, zero, suc, _+_, _-_, _<_, _≤_}
+use mathlib.Core.Bool.{true, cond}
+use Prim.Native.Nat.{ℕ, zero, suc, _+_, _-_, _≤_}
 use native.Mathlib.Omega.{arith}
-use lib.IntN.{ℤ, pos, negℤ, _+ℤ_}
-use lib.Dec.{leb, ltb, eqb}
+use lib.IntN.{ℤ, pos, negℤ}
+use lib.Dec.{eqb}
 use lib.ListN.{length, getD, take, drop}
 use lib.Signed.{leZ, _≤ℤ_}
-use borrow.Author.Tests.{clash, le-leb, lt-ltb, eq-eqb, ne-eqb, eqb-true, eqb-false}
+use borrow.Author.Tests.{clash, le-leb, lt-ltb, eq-eqb, ne-eqb, eqb-true}
 use Rattle.std.proofs.shelf.Lists.{length-take, getD-drop, take-append-drop, take-take, take-all}
 use Rattle.std.proofs.shelf.Signed.{ints}
 use Rattle.std.specs.declared.result.Result.{Result}
 use Rattle.std.specs.declared.result.Result.the-variants.{Ok, Err}
 use Rattle.ledger.specs.declared.account.Account.{Account}
-use Rattle.ledger.specs.Model.{limit, numbers, Sound, From, Lawful, moved, posted, after, answer, blank}
+use Rattle.ledger.specs.Model.{limit, numbers, Sound, From, Lawful, moved, posted, after, blank}
 use Rattle.ledger.proofs.Posting.{by-test, by-answer}
 use Rattle.ledgers.specs.declared.refusal.TableRefused.{TableRefused}
 use Rattle.ledgers.specs.declared.refusal.TableRefused.the-variants.{OutsideRun}
@@ -77,8 +77,8 @@ module _ (rs : List Account) where
   check-says : Says rs (checked rs)
   check-says =
       by-test (eqb (open-records rs) (length rs)) (λ b. Says rs (cond b (Ok tt) (Err (OutsideRun (suc (open-records rs))))))
-        (λ e. all-says (eqb-true (open-records rs) (length rs) e))
-        (λ e. first-says (λ z. clash (sym e ∙ eq-eqb (open-records rs) (length rs) z)))
+      (λ e. all-says (eqb-true (open-records rs) (length rs) e))
+      (λ e. first-says (λ z. clash (sym e ∙ eq-eqb (open-records rs) (length rs) z)))
 
   outside-is : (k : ℕ) → Outside rs k → k ≡ suc (open-records rs)
   outside-is k o =
@@ -145,8 +145,8 @@ posted-near : (m b : List Account) (n : ℕ) (x : ℤ) → OnlyBalance n (m ++ b
 posted-near [] b n x = same-near n b
 posted-near (a ∷ rest) b n x =
     by-test (eqb (a .number) n) (λ t. OnlyBalance n (a ∷ (rest ++ b)) (cond t (moved a x ∷ rest) (a ∷ posted rest n x) ++ b))
-      (λ e. moved-near n a x (rest ++ b) (eqb-true (a .number) n e))
-      (λ _. more-near n a (rest ++ b) (posted rest n x ++ b) (posted-near rest b n x))
+    (λ e. moved-near n a x (rest ++ b) (eqb-true (a .number) n e))
+    (λ _. more-near n a (rest ++ b) (posted rest n x ++ b) (posted-near rest b n x))
 
 after-near : (m b : List Account) (n : ℕ) (x : ℤ) → OnlyBalance n (m ++ b) (after m n x ++ b)
 after-near m b n x = by-answer (λ l. OnlyBalance n (m ++ b) (l ++ b)) m n x (λ _. posted-near m b n x) (same-near n (m ++ b))

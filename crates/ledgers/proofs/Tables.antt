@@ -2,41 +2,37 @@
 use mathlib.Core.Path.{_≡_, refl, sym, ap, subst, _∙_}
 use mathlib.Core.List.{List, [], _∷_, _++_}
 use mathlib.Core.Bool.{Bool, true, false, cond, _&&_}
-use Prim.Native.Nat.{ℕ, zero, suc, _+_, _-_, _<_, _≤_, min}
+use Prim.Native.Nat.{ℕ, zero, suc, _+_, _<_, _≤_}
 use native.Mathlib.Omega.{arith}
-use native.Mathlib.Numerals.{add-one}
 use lib.IntN.{ℤ, pos, negℤ, _+ℤ_}
 use lib.Dec.{leb, ltb}
 use lib.ListN.{length, getD, set, take, drop}
-use lib.Signed.{leZ, _≤ℤ_}
-use Rattle.std.proofs.shelf.Lists.{length-take, length-set, getD-take, drop-more, drop-all, drop-set-lt, take-append-drop, take-take, take-all}
-use Rattle.std.proofs.shelf.Signed.{ints}
-use Rattle.std.proofs.shelf.Ways.{tells}
+use lib.Signed.{leZ}
+use Rattle.std.proofs.shelf.Lists.{length-take, length-set, getD-take, drop-more, drop-all, drop-set-lt, take-append-drop, take-take}
 use Rattle.ledger.specs.declared.account.Account.{Account}
 use Rattle.ledger.specs.Model.{limit, numbers, within, moved, raised, find, answer, answerAt, after, blank}
 use Rattle.ledger.proofs.Posting.{by-test, and-left, and-right, after-taken}
 use Rattle.ledger.proofs.Places.{found-at, posted-at, not-found}
-use Rattle.ledger.specs.declared.refusal.PostRefused.{PostRefused}
 use Rattle.ledger.specs.declared.refusal.PostRefused.the-variants.{NotOpen, OutOfBounds}
 use Rattle.std.specs.declared.option.Option.the-variants.{Some, None}
 use Rattle.std.specs.declared.result.Result.the-variants.{Ok, Err}
 use Rattle.ledgers.specs.Lawfuls.{and-6}
-use Rattle.ledgers.specs.Table.{most, ascend, lawfulFrom, run, tableModel, open-records, beyond, Absent, FirstAt, TableKept}
+use Rattle.ledgers.specs.Table.{most, lawfulFrom, run, tableModel, open-records, beyond, Absent, FirstAt, TableKept}
 
 pub run-length : (least : ℕ) (xs : List Account) → length (run least xs) ≤ length xs
 run-length least [] = omega arith
 run-length least (a ∷ rest) =
     by-test (lawfulFrom least a) (λ b. length (cond b (a ∷ run (suc (a .number)) rest) []) ≤ suc (length rest))
-      (λ _. let h = run-length (suc (a .number)) rest in omega arith)
-      (λ _. omega arith)
+    (λ _. let h = run-length (suc (a .number)) rest in omega arith)
+    (λ _. omega arith)
 
 -- the run is a front of the records
 pub run-front : (least : ℕ) (xs : List Account) → run least xs ≡ take (length (run least xs)) xs
 run-front least [] = refl
 run-front least (a ∷ rest) =
     by-test (lawfulFrom least a) (λ b. cond b (a ∷ run (suc (a .number)) rest) [] ≡ take (length (cond b (a ∷ run (suc (a .number)) rest) [])) (a ∷ rest))
-      (λ _. ap (λ l. a ∷ l) (run-front (suc (a .number)) rest))
-      (λ _. refl)
+    (λ _. ap (λ l. a ∷ l) (run-front (suc (a .number)) rest))
+    (λ _. refl)
 
 and-swap : (p q r s t u s′ t′ : Bool) → (p && (q && ((r && s) && (t && u)))) ≡ true → (s′ && t′) ≡ true → (p && (q && ((r && s′) && (t′ && u)))) ≡ true
 and-swap p q r s t u s′ t′ e h =
@@ -53,14 +49,14 @@ pub run-set : (least : ℕ) (xs : List Account) (i : ℕ) (d : Account) (x : ℤ
 run-set least [] i d x h w = absurd (omega arith)
 run-set least (a ∷ rest) zero d x h w =
     by-test (lawfulFrom least a) (λ b. lawfulFrom least a ≡ b → 0 < length (cond b (a ∷ run (suc (a .number)) rest) []) → run least (moved a x ∷ rest) ≡ set (cond b (a ∷ run (suc (a .number)) rest) []) 0 (moved a x))
-      (λ _ e _. rw (lawful-moved least a x e w))
-      (λ _ _ lt. absurd (omega arith))
-      refl h
+    (λ _ e _. rw (lawful-moved least a x e w))
+    (λ _ _ lt. absurd (omega arith))
+    refl h
 run-set least (a ∷ rest) (suc i) d x h w =
     by-test (lawfulFrom least a) (λ b. suc i < length (cond b (a ∷ run (suc (a .number)) rest) []) → cond b (a ∷ run (suc (a .number)) (set rest i (moved (getD rest i d) x))) [] ≡ set (cond b (a ∷ run (suc (a .number)) rest) []) (suc i) (moved (getD rest i d) x))
-      (λ _ lt. ap (λ l. a ∷ l) (run-set (suc (a .number)) rest i d x (omega arith) w))
-      (λ _ lt. absurd (omega arith))
-      h
+    (λ _ lt. ap (λ l. a ∷ l) (run-set (suc (a .number)) rest i d x (omega arith) w))
+    (λ _ lt. absurd (omega arith))
+    h
 
 -- the count, one record more
 module _ (rs : List Account) (least i n : ℕ) (d : Account) (so-far : i + length (run least (drop i (take most rs))) ≡ n) where
@@ -142,8 +138,8 @@ module _ (rs : List Account) (i n : ℕ) (x : ℤ) (at : FirstAt (tableModel rs)
       let w = raised-within (getD rs i blank) x b e in
       let same = model-at rs i blank (at .inside) in
       model-set rs i blank (at .inside) x w ∙ ap (λ a. set (tableModel rs) i (moved a x)) (sym same)
-        ∙ sym (posted-at (tableModel rs) i n blank x (at .inside) (at .here) (at .before))
-        ∙ sym (after-taken (tableModel rs) n x (table-answers b e))
+      ∙ sym (posted-at (tableModel rs) i n blank x (at .inside) (at .here) (at .before))
+      ∙ sym (after-taken (tableModel rs) n x (table-answers b e))
 
   pub table-keeps : (b : ℤ) → raised (getD rs i blank) x ≡ Some b → TableKept rs (set rs i (moved (getD rs i blank) x))
   table-keeps b e =

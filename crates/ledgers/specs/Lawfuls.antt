@@ -35,30 +35,32 @@ pub run-lawful : (least : ℕ) (xs : List Account) → From least (run least xs)
 run-lawful least [] = tt
 run-lawful least (a ∷ rest) =
     by-test (lawfulFrom least a) (λ b. From least (cond b (a ∷ run (suc (a .number)) rest) []))
-      (λ e. let f = lawful-parts least a e in (f .0, f .1, run-lawful (suc (a .number)) rest))
-      (λ _. tt)
+    (λ e. let f = lawful-parts least a e in (f .0, f .1, run-lawful (suc (a .number)) rest))
+    (λ _. tt)
 
 pub table-lawful : (rs : List Account) → Lawful (tableModel rs)
 table-lawful rs = run-lawful 0 (take most rs)
 
 pub operators-lawful : (x y : ℤ) → InLimit x → InLimit y → Lawful (operators x y)
-operators-lawful x y (a, b) (c, d) =
-    (omega arith, record { numbered = omega arith; lowest = omega (arith, ints); above = a; under = b; highest = omega (arith, ints) },
-     (omega arith, record { numbered = omega arith; lowest = omega (arith, ints); above = c; under = d; highest = omega (arith, ints) }, tt))
+operators-lawful x y (a, b) (c, d) = (
+  omega arith,
+  record { numbered = omega arith; lowest = omega (arith, ints); above = a; under = b; highest = omega (arith, ints) },
+  (omega arith, record { numbered = omega arith; lowest = omega (arith, ints); above = c; under = d; highest = omega (arith, ints) }, tt),
+)
 
 pub from-on : (b least l : ℕ) (k : List Account) → least ≤ b → From l k → From least (fromOn b k)
 from-on b least l [] h f = tt
 from-on b least l (a ∷ rest) h (q, s, f) =
     by-test (ltb (a .number) b) (λ t. From least (cond t (fromOn b rest) (a ∷ rest)))
-      (λ _. from-on b least (suc (a .number)) rest h f)
-      (λ e. let le = ltb-false (a .number) b e in (omega arith, s, f))
+    (λ _. from-on b least (suc (a .number)) rest h f)
+    (λ e. let le = ltb-false (a .number) b e in (omega arith, s, f))
 
 pub from-join : (b least l : ℕ) (m k : List Account) → least ≤ b → From least m → From l k → From least (join b m k)
 from-join b least l [] k h f g = from-on b least l k h g
 from-join b least l (a ∷ rest) k h (q, s, f) g =
     by-test (ltb (a .number) b) (λ t. From least (cond t (a ∷ below b rest) [] ++ fromOn b k))
-      (λ e. let lt = ltb-true (a .number) b e in (q, s, from-join b (suc (a .number)) l rest k (omega arith) f g))
-      (λ _. from-on b least l k h g)
+    (λ e. let lt = ltb-true (a .number) b e in (q, s, from-join b (suc (a .number)) l rest k (omega arith) f g))
+    (λ _. from-on b least l k h g)
 
 pub join-lawful : (b : ℕ) (m k : List Account) → Lawful m → Lawful k → Lawful (join b m k)
 join-lawful b m k f g = from-join b 0 0 m k (omega arith) f g

@@ -11,5 +11,4 @@ pub fn laws_stand()
     ensures finds { λ _. ⌜ Join-finds ⌝ }
     ensures sums { λ _. ⌜ Join-sums ⌝ }
     ensures halves { λ _. ⌜ Halves-stay ⌝ }
-{
-}
+{}

@@ -1,17 +1,19 @@
 // The operator's ledger: account 0, the exchange, and account 1, for balancing.
 ghost use mathlib.Core.Path.{_≡_};
 ghost use lib.IntN.{pos};
-ghost use Rattle.ledgers.specs.Operator.{operators, InLimit, wide, widened};
+ghost use Rattle.ledgers.specs.Operator.{operators, InLimit, widened};
 ghost use Rattle.ledgers.specs.Lawfuls.{operators-lawful};
 use ledger::Account;
 use ledger::Accounts;
+use ledger::LIMIT;
 use ledger::Ledger;
 use ledger::PostRefused;
 
 const EXCHANGE: u32 = 0;
+
 const BALANCING: u32 = 1;
+
 const ACCOUNTS: usize = 2;
-const LIMIT: i64 = 10_000_000_000_000_000;
 
 /// The operator's two accounts, with the widest bounds.
 #[derive(Drop)]
@@ -26,7 +28,10 @@ impl Operator {
     pub fn new() -> Operator
         ensures { λ r. ⌜ operators (r .exchange) (r .balancing) ≡ operators (pos 0) (pos 0) ⌝ }
     {
-        Operator { exchange: 0, balancing: 0 }
+        Operator {
+            exchange: 0,
+            balancing: 0,
+        }
     }
 }
 
@@ -60,7 +65,12 @@ pub impl Accounts for Operator as OperatorAccounts {
 fn moved(account: u32, balance: i64, amount: i64) -> Result<i64, PostRefused>
     ensures { λ r. ⌜ r ≡ widened account balance amount ⌝ }
 {
-    let held = Account { number: account, balance, lower: -LIMIT, upper: LIMIT };
+    let held = Account {
+        number: account,
+        balance,
+        lower: -LIMIT,
+        upper: LIMIT,
+    };
     match held.raised(amount) {
         Some(balance) => Ok(balance),
         None => Err(PostRefused::OutOfBounds { account }),

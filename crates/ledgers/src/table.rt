@@ -5,16 +5,17 @@ ghost use lib.ListN.{length, getD, set};
 ghost use denote.Ref.{now as held, name};
 ghost use Rattle.ledgers.specs.Table.{Absent, FirstAt, ascend, lawfulFrom, tableModel, open-records, TableKept, checked, holding};
 ghost use Rattle.ledgers.specs.Lawfuls.{table-lawful};
+ghost use Rattle.ledgers.specs.Laws.{Says};
 ghost use Rattle.ledger.specs.Model.{answer, after, blank};
 ghost use Rattle.std.specs.Options.{Cases as BySome};
 use super::refusal::TableRefused;
 use ledger::Account;
 use ledger::Accounts;
+use ledger::LIMIT;
 use ledger::Ledger;
 use ledger::PostRefused;
 
 const MOST: usize = 500;
-const LIMIT: i64 = 10_000_000_000_000_000;
 
 /// A ledger over account records. Its accounts are the longest leading run within the first 500 records
 /// with strictly ascending numbers, lawful bounds and balances between them. The other records lie idle.
@@ -26,14 +27,24 @@ pub struct Table<'a> {
 impl Table<'_> {
     /// Refused at the first record that is no account of the table.
     pub fn check(&self) -> Result<(), TableRefused>
-        ensures { λ r. ⌜ r ≡ checked (held (now (self .entry) .records)) ⌝ }
+        ensures exact { λ r. ⌜ r ≡ checked (held (now (self .entry) .records)) ⌝ }
+        ensures says { λ r. ⌜ Says (held (now (self .entry) .records)) r ⌝ }
     {
-        let open = open_count(self.records);
-        if open == self.records.len() {
-            Ok(())
-        } else {
-            Err(TableRefused::OutsideRun { record: open as u32 + 1 })
-        }
+        check_run(self.records)
+    }
+}
+
+/// Refused at the first record outside the run.
+fn check_run(records: &[Account]) -> Result<(), TableRefused>
+    ensures { λ r. ⌜ r ≡ checked (now (records .entry)) ⌝ }
+{
+    let open = open_count(records);
+    if open == records.len() {
+        Ok(())
+    } else {
+        Err(TableRefused::OutsideRun {
+            record: open as u32 + 1,
+        })
     }
 }
 

@@ -1,9 +1,11 @@
 // Cases of the check, of posting, of joined ledgers and of posting all or none.
-use super::pay_both;
+use super::client::pay;
+use super::client::pay_both;
 use ledger::Account;
 use ledger::AccountDebug;
 use ledger::AccountPartialEq;
 use ledger::Accounts;
+use ledger::LIMIT;
 use ledger::Ledger;
 use ledger::LentAccounts;
 use ledger::PostRefused;
@@ -20,11 +22,15 @@ use ledgers::TableLedger;
 use posting::Posting;
 use std::test::*;
 
-const LIMIT: i64 = 10_000_000_000_000_000;
 const ACCEPTED: (u32, u32) = (0, 0);
 
 fn account(number: u32, balance: i64, lower: i64, upper: i64) -> Account {
-    Account { number, balance, lower, upper }
+    Account {
+        number,
+        balance,
+        lower,
+        upper,
+    }
 }
 
 /// An account with balance 0 and bounds of 10 either way.
@@ -67,7 +73,10 @@ fn run_ends_at_each_fault() -> Result<(), Fail> {
     check_eq(checked(&mut [account(7, 0, -10, -1)]), (9, 1))?;
     check_eq(checked(&mut [account(7, 0, -LIMIT - 1, 0)]), (9, 1))?;
     check_eq(checked(&mut [account(7, 0, 0, LIMIT + 1)]), (9, 1))?;
-    check_eq(checked(&mut [account(7, 0, -LIMIT, LIMIT), account(8, -10, -10, -10)]), ACCEPTED)
+    check_eq(
+        checked(&mut [account(7, 0, -LIMIT, LIMIT), account(8, -10, -10, -10)]),
+        ACCEPTED,
+    )
 }
 
 /// The check of 500 lawful records.
@@ -99,7 +108,9 @@ fn posted<L: Ledger>(ledger: &mut L, account: u32, amount: i64) -> ((u32, u32), 
 #[test]
 fn table_posts_to_its_bounds() -> Result<(), Fail> {
     let mut records = [small(7), account(9, 3, 0, 5), small(9)];
-    let mut table = Table { records: &mut records };
+    let mut table = Table {
+        records: &mut records,
+    };
     check_eq(posted(&mut table, 7, 10), (ACCEPTED, Some(10)))?;
     check_eq(posted(&mut table, 7, 1), ((21, 7), Some(10)))?;
     check_eq(posted(&mut table, 7, -20), (ACCEPTED, Some(-10)))?;
@@ -141,7 +152,11 @@ fn listed<L: Accounts>(ledger: &L) -> [Option<u32>; 7] {
 fn joined_at(border: u32) -> (usize, [Option<u32>; 7]) {
     let mut low = [small(1), small(4), small(7)];
     let mut high = [small(2), small(5), small(8)];
-    let joined = Joined { first: Table { records: &mut low }, second: Table { records: &mut high }, border };
+    let joined = Joined {
+        first: Table { records: &mut low },
+        second: Table { records: &mut high },
+        border,
+    };
     (joined.count(), listed(&joined))
 }
 
@@ -160,7 +175,11 @@ fn joined_follows_the_border() -> Result<(), Fail> {
 fn joined_posts_by_the_border() -> Result<(), Fail> {
     let mut low = [small(1), small(5)];
     let mut high = [small(4), small(5)];
-    let mut joined = Joined { first: Table { records: &mut low }, second: Table { records: &mut high }, border: 5 };
+    let mut joined = Joined {
+        first: Table { records: &mut low },
+        second: Table { records: &mut high },
+        border: 5,
+    };
     check_eq(posted(&mut joined, 1, 1), (ACCEPTED, Some(1)))?;
     check_eq(posted(&mut joined, 5, 2), (ACCEPTED, Some(2)))?;
     check_eq(posted(&mut joined, 4, 4), ((20, 4), None))?;
@@ -174,9 +193,23 @@ fn joined_posts_by_the_border() -> Result<(), Fail> {
 fn joined_over_joined() -> Result<(), Fail> {
     let mut low = [small(2), small(5)];
     let mut high = [small(6), small(9)];
-    let members = Joined { first: Table { records: &mut low }, second: Table { records: &mut high }, border: 6 };
-    let mut all = Joined { first: Operator::new(), second: members, border: 2 };
-    check_eq((all.count(), listed(&all)), (6, [None, Some(0), Some(1), Some(2), Some(5), Some(6), Some(9)]))?;
+    let members = Joined {
+        first: Table { records: &mut low },
+        second: Table { records: &mut high },
+        border: 6,
+    };
+    let mut all = Joined {
+        first: Operator::new(),
+        second: members,
+        border: 2,
+    };
+    check_eq(
+        (all.count(), listed(&all)),
+        (
+            6,
+            [None, Some(0), Some(1), Some(2), Some(5), Some(6), Some(9)],
+        ),
+    )?;
     check_eq(posted(&mut all, 0, -7), (ACCEPTED, Some(-7)))?;
     check_eq(posted(&mut all, 5, 3), (ACCEPTED, Some(3)))?;
     check_eq(posted(&mut all, 9, 4), (ACCEPTED, Some(4)))?;
@@ -191,14 +224,20 @@ type Left = ((u32, u32), [Option<i64>; 2], [Account; 3]);
 fn paid(postings: &[Posting]) -> Left {
     let mut records = [small(2), small(3), small(5)];
     let mut operator = Operator::new();
-    let mut table = Table { records: &mut records };
+    let mut table = Table {
+        records: &mut records,
+    };
     let answer = told(pay_both(&mut operator, &mut table, postings));
     (answer, [operator.balance(0), operator.balance(1)], records)
 }
 
 /// A refusal that leaves all as it was.
 fn refused(number: u32, account: u32) -> Left {
-    ((number, account), [Some(0), Some(0)], [small(2), small(3), small(5)])
+    (
+        (number, account),
+        [Some(0), Some(0)],
+        [small(2), small(3), small(5)],
+    )
 }
 
 fn of(account: u32, amount: i64) -> Posting {
@@ -208,14 +247,34 @@ fn of(account: u32, amount: i64) -> Posting {
 #[test]
 fn all_are_posted() -> Result<(), Fail> {
     let records = [account(2, 7, -10, 10), small(3), account(5, -6, -10, 10)];
-    check_eq(paid(&[of(2, 1); 0]), (ACCEPTED, [Some(0), Some(0)], [small(2), small(3), small(5)]))?;
-    check_eq(paid(&[of(2, 10), of(0, -4), of(5, -6), of(2, -3)]), (ACCEPTED, [Some(-4), Some(0)], records))
+    check_eq(
+        paid(&[of(2, 1); 0]),
+        (ACCEPTED, [Some(0), Some(0)], [small(2), small(3), small(5)]),
+    )?;
+    check_eq(
+        paid(&[of(2, 10), of(0, -4), of(5, -6), of(2, -3)]),
+        (ACCEPTED, [Some(-4), Some(0)], records),
+    )
 }
 
 #[test]
 fn refused_none_are_posted() -> Result<(), Fail> {
     check_eq(paid(&[of(4, 1), of(2, 1), of(3, 1)]), refused(20, 4))?;
     check_eq(paid(&[of(2, 10), of(2, 1), of(3, 1)]), refused(21, 2))?;
-    check_eq(paid(&[of(1, 5), of(2, 10), of(2, -20), of(2, 20), of(3, i64::MIN)]), refused(21, 3))?;
-    check_eq(paid(&[of(0, 9), of(1, -LIMIT), of(1, -1), of(9, 1)]), refused(21, 1))
+    check_eq(
+        paid(&[of(1, 5), of(2, 10), of(2, -20), of(2, 20), of(3, i64::MIN)]),
+        refused(21, 3),
+    )?;
+    check_eq(
+        paid(&[of(0, 9), of(1, -LIMIT), of(1, -1), of(9, 1)]),
+        refused(21, 1),
+    )
+}
+
+#[test]
+fn client_pays_from_its_records() -> Result<(), Fail> {
+    let mut records = [small(2), small(3)];
+    check_eq(told(pay(&mut records, &[of(2, 4), of(0, -4)])), ACCEPTED)?;
+    check_eq(told(pay(&mut records, &[of(3, 4), of(2, 7)])), (21, 2))?;
+    check_eq(records, [account(2, 4, -10, 10), small(3)])
 }

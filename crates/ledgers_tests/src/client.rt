@@ -24,13 +24,21 @@ use posting::Posting;
 use posting::post_list;
 
 /// Posts to two ledgers that are lent, joined at 2, all or none.
-pub fn pay_both<A: Ledger, B: Ledger>(first: &mut A, second: &mut B, postings: &[Posting]) -> Result<(), PostRefused>
+pub fn pay_both<A: Ledger, B: Ledger>(
+    first: &mut A,
+    second: &mut B,
+    postings: &[Posting],
+) -> Result<(), PostRefused>
     ensures answers { λ r. ⌜ r ≡ answers (join 2 (A·Accounts .model (now (first .entry))) (B·Accounts .model (now (second .entry)))) (now (postings .entry)) ⌝ }
     ensures posts { λ r. ⌜ join 2 (A·Accounts .model (now (first .exit))) (B·Accounts .model (now (second .exit))) ≡ left (join 2 (A·Accounts .model (now (first .entry))) (B·Accounts .model (now (second .entry)))) (now (postings .entry)) ⌝ }
     ensures keeps { λ r. ⌜ A·Ledger .kept (now (first .entry)) (now (first .exit)) × B·Ledger .kept (now (second .entry)) (now (second .exit)) ⌝ }
     ensures unmoved { λ r. ⌜ BothStay r (A·Accounts .model (now (first .entry))) (A·Accounts .model (now (first .exit))) (B·Accounts .model (now (second .entry))) (B·Accounts .model (now (second .exit))) ⌝ }
 {
-    let mut books = Joined { first, second, border: 2 };
+    let mut books = Joined {
+        first,
+        second,
+        border: 2,
+    };
     post_list(&mut books, postings)
 }
 

@@ -2,7 +2,7 @@
 use mathlib.Core.Path.{_≡_, refl, sym, ap, _∙_, subst}
 use mathlib.Core.List.{List, [], _∷_, _++_}
 use mathlib.Core.Bool.{cond}
-use Prim.Native.Nat.{ℕ, zero, suc, _+_, _-_, _<_, _≤_}
+use Prim.Native.Nat.{ℕ, zero, suc, _+_, _-_, _<_}
 use native.Mathlib.Omega.{arith}
 use native.Mathlib.Numerals.{add-one}
 use native.Mathlib.Nat.{add-zero, add-suc}
@@ -10,11 +10,8 @@ use mathlib.Core.Logic.{⊎-elim}
 use Rattle.std.proofs.shelf.Tests.{cases-eq}
 use lib.Dec.{ltb}
 use borrow.Author.Tests.{ltb-true, ltb-false}
-use lib.IntN.{ℤ, pos, negℤ, _-ℤ_, _+ℤ_}
-use lib.Signed.{_≤ℤ_}
-use mir.Syntax.{w64}
-use mir.Val.{SFits, toZ, ofZ}
-use Rattle.std.proofs.shelf.Signed.{ints, toZ-ofZ}
+use lib.IntN.{negℤ, _+ℤ_}
+use Rattle.std.proofs.shelf.Signed.{ints}
 use lib.ListN.{length, getD, take}
 use Rattle.std.proofs.shelf.Lists.{append-nil, append-assoc, take-more, take-all}
 use Rattle.std.specs.declared.option.Option.{Option}
@@ -24,10 +21,10 @@ use Rattle.std.specs.declared.result.Result.the-variants.{Ok, Err}
 use Rattle.ledger.specs.declared.account.Account.{Account}
 use Rattle.ledger.specs.declared.refusal.PostRefused.{PostRefused}
 use Rattle.ledger.specs.Model.{answer, posted, after, Lawful, total}
-use Rattle.ledger.proofs.Posting.{lawful-posted, taken-back, taken-small, after-taken, after-refused, total-posted, by-test}
+use Rattle.ledger.proofs.Posting.{lawful-posted, taken-back, taken-small, total-posted, by-test}
 use Rattle.posting.specs.declared.posting.Posting.{Posting}
 use Rattle.posting.specs.Laws.{Stopped, Tells, Unmoved, Summed}
-use Rattle.posting.specs.Postings.{nothing, slotOf, one, listed, postedAll, then, answers, left, AllTaken, opposed, undone, Small, SmallAt, amounts}
+use Rattle.posting.specs.Postings.{nothing, slotOf, one, listed, postedAll, then, answers, left, AllTaken, opposed, undone, SmallAt, amounts}
 
 pub posted-push : (m : List Account) (ps : List Posting) (p : Posting) → postedAll m (ps ++ p ∷ []) ≡ posted (postedAll m ps) (p .account) (p .amount)
 posted-push m [] p = refl
@@ -98,7 +95,7 @@ pub answers-longer : (m : List Account) (ps qs : List Posting) (e : PostRefused)
 answers-longer m [] qs e h = let z : _≡_ {A = ℕ} 0 1 = cc in absurd (omega arith)
 answers-longer m (p ∷ ps) qs e h =
     then-err (answer m (p .account) (p .amount)) (answers (posted m (p .account) (p .amount)) ps) (answers (posted m (p .account) (p .amount)) (ps ++ qs)) e
-      (answers-longer (posted m (p .account) (p .amount)) ps qs e) h
+    (answers-longer (posted m (p .account) (p .amount)) ps qs e) h
 
 pub left-ok : (m : List Account) (ps : List Posting) → answers m ps ≡ Ok tt → left m ps ≡ postedAll m ps
 left-ok m ps e = rw e
@@ -131,9 +128,9 @@ module _ (f : ℕ → Option Posting) where
   smalls m zero l t k h = absurd (omega arith)
   smalls m (suc n) l t k h =
       ⊎-elim
-        (λ e. subst (λ j. SmallAt (f j)) (sym e) (smalls-last m (listed f n) (f n) l t))
-        (λ ne. smalls m n l (taken-front m (listed f n) (one (f n)) t) k (omega arith))
-        (cases-eq k n)
+      (λ e. subst (λ j. SmallAt (f j)) (sym e) (smalls-last m (listed f n) (f n) l t))
+      (λ ne. smalls m n l (taken-front m (listed f n) (one (f n)) t) k (omega arith))
+      (cases-eq k n)
 
   undone-last : (m : List Account) (ps : List Posting) (o : Option Posting) → Lawful m → AllTaken m (ps ++ one o) → opposed (postedAll m (ps ++ one o)) o ≡ postedAll m ps
   undone-last m ps None l t = ap (postedAll m) (append-nil ps)
@@ -179,8 +176,8 @@ take-slot : (ps : List Posting) (n : ℕ) → take (suc n) ps ≡ take n ps ++ o
 take-slot ps n =
     let one-more : suc n ≡ n + 1 = omega arith in
     by-test (ltb n (length ps)) (λ b. take (suc n) ps ≡ take n ps ++ one (cond b (Some (getD ps n nothing)) None))
-      (λ e. ap (λ k. take k ps) one-more ∙ take-more ps n nothing (ltb-true n (length ps) e))
-      (λ e. let le = ltb-false n (length ps) e in take-all (suc n) ps (omega arith) ∙ sym (take-all n ps le) ∙ sym (append-nil (take n ps)))
+    (λ e. ap (λ k. take k ps) one-more ∙ take-more ps n nothing (ltb-true n (length ps) e))
+    (λ e. let le = ltb-false n (length ps) e in take-all (suc n) ps (omega arith) ∙ sym (take-all n ps le) ∙ sym (append-nil (take n ps)))
 
 listed-take : (ps : List Posting) (n : ℕ) → listed (slotOf ps) n ≡ take n ps
 listed-take ps zero = refl

@@ -1,7 +1,7 @@
 -- All or none, in words: when all are taken, what the first refusal is, and what becomes of the sum of balances.
 use mathlib.Core.Path.{_≡_}
 use mathlib.Core.List.{List, _∷_, _++_}
-use lib.IntN.{ℤ, pos, _+ℤ_}
+use lib.IntN.{_+ℤ_}
 use Prim.Native.Nat.{ℕ}
 use Rattle.std.specs.declared.option.Option.{Option}
 use Rattle.std.specs.declared.result.Result.{Result}

@@ -6,5 +6,4 @@ pub fn laws_stand()
     ensures foremost { λ _. ⌜ Foremost ⌝ }
     ensures moves { λ _. ⌜ Moves-by-amounts ⌝ }
     ensures undone { λ _. ⌜ Undone-all ⌝ }
-{
-}
+{}

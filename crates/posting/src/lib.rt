@@ -9,9 +9,9 @@ mod laws;
 mod posting;
 mod source;
 
+pub use laws::laws_stand;
 use ledger::Ledger;
 use ledger::PostRefused;
-pub use laws::laws_stand;
 pub use posting::Posting;
 pub use posting::PostingDebug;
 pub use posting::PostingEq;
@@ -51,7 +51,11 @@ pub fn post_list<L: Ledger>(ledger: &mut L, postings: &[Posting]) -> Result<(), 
 }
 
 /// Posts what stands at a place.
-fn post_at<L: Ledger, S: Source>(ledger: &mut L, source: &S, place: usize) -> Result<(), PostRefused>
+fn post_at<L: Ledger, S: Source>(
+    ledger: &mut L,
+    source: &S,
+    place: usize,
+) -> Result<(), PostRefused>
     ensures answers { λ r. ⌜ r ≡ answers (L·Accounts .model (now (ledger .entry))) (one (S·Source .slot (now (source .entry)) place)) ⌝ }
     ensures posts { λ r. ⌜ L·Accounts .model (now (ledger .exit)) ≡ left (L·Accounts .model (now (ledger .entry))) (one (S·Source .slot (now (source .entry)) place)) ⌝ }
     ensures keeps { λ r. ⌜ L·Ledger .kept (now (ledger .entry)) (now (ledger .exit)) ⌝ }
@@ -63,7 +67,12 @@ fn post_at<L: Ledger, S: Source>(ledger: &mut L, source: &S, place: usize) -> Re
 }
 
 /// Takes back what stands at the first places, and passes the refusal on.
-fn give_up<L: Ledger, S: Source>(ledger: &mut L, source: &S, places: usize, refused: PostRefused) -> Result<(), PostRefused>
+fn give_up<L: Ledger, S: Source>(
+    ledger: &mut L,
+    source: &S,
+    places: usize,
+    refused: PostRefused,
+) -> Result<(), PostRefused>
     requires { ⌜ ((k : ℕ) → k < places → SmallAt (S·Source .slot (now source) k)) ⌝ }
     ensures refused { λ r. ⌜ r ≡ Err refused ⌝ }
     ensures posts { λ r. ⌜ L·Accounts .model (now (ledger .exit)) ≡ undone (L·Accounts .model (now (ledger .entry))) (S·Source .slot (now (source .entry))) places ⌝ }

@@ -1,4 +1,7 @@
-// A worked day: it is started, its book is filled and closed, and two papers on it are judged.
+// A worked day: it is started, its book is filled and closed, two papers on it are judged, and the one that passes is cut to whole
+// steps of 0.1 MW. Last come accounts to post to.
+use accounts::show_accounts;
+use cutting::show_cuts;
 use engine::book::Closed;
 use engine::book::Fail;
 use engine::book::Open;
@@ -12,6 +15,9 @@ use market::records::Side;
 use market::words::RefusalDisplay;
 use market::words::RefusalError;
 use std::error::AnyError;
+
+mod accounts;
+mod cutting;
 
 const PRICE: i32 = 5_000;
 
@@ -130,7 +136,8 @@ fn run(rt: &LibcRuntime) -> Result<(), AnyError> {
         Outcome::Passed(_) => Err("the first paper should have been refused".into()),
         Outcome::Refused(closed) => {
             let _ = judge(rt, closed, &day, &memory, &SECOND_PAPER)?;
-            Ok(())
+            show_cuts(rt, &memory, &SECOND_PAPER, ROUNDED)?;
+            show_accounts(rt)
         }
     }
 }

@@ -37,11 +37,12 @@ loop-next-again g c =
     let f = g .S·Source .slot (c .args .source .now) in
     let l = g .L·Accounts .model (c .loop-next .ledger) in
     let i = c .loop-next .next in
-    let h = sym (c .in-Ok .ensures tt .answers) in
-    (omega arith,
-     more-posted f m l i (c .loop-next .inv .1) (c .loop-next .inv .2) (g .L·Accounts .model (c .post-at .last .ledger)) h (c .post-at .ensures .posts),
-     more-taken f m l i (c .loop-next .inv .1) (c .loop-next .inv .2) h,
-     g .L·Ledger .onward _ _ _ (c .loop-next .inv .3) (c .post-at .ensures .keeps))
+    let h = sym (c .in-Ok .ensures tt .answers) in (
+      omega arith,
+      more-posted f m l i (c .loop-next .inv .1) (c .loop-next .inv .2) (g .L·Accounts .model (c .post-at .last .ledger)) h (c .post-at .ensures .posts),
+      more-taken f m l i (c .loop-next .inv .1) (c .loop-next .inv .2) h,
+      g .L·Ledger .onward _ _ _ (c .loop-next .inv .3) (c .post-at .ensures .keeps),
+    )
 
 pub returns : need.returns
 returns g c =

@@ -1,6 +1,6 @@
 use mathlib.Core.Path.{_≡_, ap, _∙_}
 use Rattle.posting.specs.Postings.{answers, left}
-use Rattle.posting.proofs.Order.{listed-all, unmoved-left, summed-left}
+use Rattle.posting.proofs.Order.{listed-all, summed-left}
 use Rattle.posting.proofs.post_list.Needs as need
 
 pub returns : need.returns

@@ -1,9 +1,9 @@
 use mathlib.Core.Path.{_≡_}
-use Prim.Native.Nat.{_≤_, _*_}
+use Prim.Native.Nat.{_*_}
 use lib.IntN.{pos, negℤ, _+ℤ_}
 use lib.Signed.{_≤ℤ_}
-use lib.ListN.{length, drop}
-use Rattle.ledger.specs.Model.{total, limit}
+use lib.ListN.{drop}
+use Rattle.ledger.specs.Model.{total}
 use Rattle.ledger.proofs.sum.sum_of_balances.Given as given
 
 -- the sum so far and what is left make the whole, and the sum is bounded

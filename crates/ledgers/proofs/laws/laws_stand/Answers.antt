@@ -5,12 +5,12 @@ use Rattle.ledgers.proofs.laws.laws_stand.Needs as need
 
 pub returns : need.returns
 returns c = record {
-    leads = λ rs. (model-front rs, open-most rs);
-    longest = table-longest;
-    checks = checks;
-    only = posts-only;
-    records = records-stay;
-    finds = join-finds;
-    sums = join-total;
-    halves = halves-stay;
-  }
+  leads = λ rs. (model-front rs, open-most rs);
+  longest = table-longest;
+  checks = checks;
+  only = posts-only;
+  records = records-stay;
+  finds = join-finds;
+  sums = join-total;
+  halves = halves-stay;
+}

@@ -1,15 +1,12 @@
-use mathlib.Core.Path.{_≡_, refl, sym, ap, subst, _∙_}
-use Prim.Native.Nat.{_<_}
+use mathlib.Core.Path.{refl, sym, ap, subst, _∙_}
 use native.Mathlib.Omega.{arith}
-use lib.IntN.{ℤ}
 use lib.ListN.{length, getD, set}
 use mir.Syntax.{w64}
 use mir.Val.{SFits}
 use borrow.Author.Needs.{needs}
 use Rattle.std.proofs.shelf.Signed.{toZ-ofZ}
-use Rattle.ledger.specs.declared.account.Account.{Account}
 use Rattle.ledger.specs.declared.refusal.PostRefused.the-variants.{NotOpen, OutOfBounds}
-use Rattle.ledger.specs.Model.{moved, after, blank}
+use Rattle.ledger.specs.Model.{blank}
 use Rattle.ledger.proofs.Posting.{after-refused}
 use Rattle.ledgers.specs.Table.{FirstAt, Absent, tableModel, TableKept, holding}
 use Rattle.ledgers.proofs.Tables.{open-length, raised-is, table-answers, table-posts, table-keeps, table-refuses, table-absent}

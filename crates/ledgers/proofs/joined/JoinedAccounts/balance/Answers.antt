@@ -1,4 +1,4 @@
-use mathlib.Core.Path.{_≡_, sym, ap, _∙_}
+use mathlib.Core.Path.{sym, ap, _∙_}
 use borrow.Author.Tests.{ltb-true, ltb-false}
 use Rattle.ledger.specs.Model.{balanceIn}
 use Rattle.ledgers.proofs.Joins.{find-low, find-high}

@@ -1,8 +1,4 @@
-use mathlib.Core.Path.{_≡_, sym, ap, _∙_}
-use Prim.Native.Nat.{_+_, _-_, _<_, _≤_}
 use native.Mathlib.Omega.{arith}
-use lib.ListN.{length}
-use Rattle.ledgers.specs.Join.{below, fromOn, join}
 use Rattle.ledger.proofs.Places.{lawful-length}
 use Rattle.ledgers.proofs.Joins.{split-length, join-length}
 use Rattle.ledgers.proofs.joined.JoinedAccounts.count.Needs as need
