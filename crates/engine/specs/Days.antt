@@ -1,5 +1,5 @@
 -- A day: its records, and what the calls make of them.
-use Prim.Native.Nat.{ℕ, _-_}
+use Prim.Native.Nat.{ℕ, _-_, _/_}
 use mathlib.Core.Path.{_≡_}
 use mathlib.Core.List.{List}
 use mathlib.Core.Bool.{Bool, cond}
@@ -8,8 +8,10 @@ use lib.ListN.{set, getD, take, replicate}
 use Rattle.std.specs.declared.option.Option.{Option}
 use Rattle.std.specs.declared.option.Option.the-variants.{Some, None}
 use Rattle.market.specs.declared.records.Interval.{Interval}
+use Rattle.market.specs.declared.records.Mark.{Mark}
 use Rattle.market.specs.Blank.{fresh}
 use Rattle.market.specs.Bounds.{in-day}
+use Rattle.entries.specs.Amounts.{Conditions}
 use Rattle.engine.specs.declared.day.Day.{Day}
 
 -- the place in the table of the interval numbered i, from 1
@@ -43,3 +45,19 @@ pub record Fresh (minutes : ℤ) (count : ℕ) (d : Day) : Type 0 where
   pub minutes-are : d .minutes ≡ minutes
   pub count-is : d .count ≡ count
   pub intervals-are : d .intervals ≡ replicate 100 fresh
+
+-- a record with another mark and another remainder
+abbrev pub with-state : Interval → Mark → ℤ → Interval
+with-state x m z = record { price = x .price; net = x .net; rounded = x .rounded; mark = m; remainder = z }
+
+-- the quarters of an hour in an interval of so many minutes
+abbrev pub quarters-of : ℤ → ℕ
+quarters-of minutes = natAbs minutes / 15
+
+-- what a record is settled by, in a day of intervals of so many minutes
+abbrev pub conditions-in : ℤ → Interval → Conditions
+conditions-in minutes x = record { price = x .price; rounded = x .rounded; quarters = quarters-of minutes }
+
+-- what the interval numbered i is settled by
+abbrev pub conditions-of : Day → ℤ → Conditions
+conditions-of d i = conditions-in (d .minutes) (record-of d i)

@@ -8,24 +8,24 @@ pub mod judging;
 /// A book that takes terms and entries.
 #[derive(Drop)]
 pub struct Open {
-    orders: usize,
-    blocks: usize,
+    pub(crate) orders: usize,
+    pub(crate) blocks: usize,
     ghost few: { (orders ≤ 1024) × (blocks ≤ 64) },
 }
 
 /// A book that can be judged, and nothing else.
 #[derive(Drop)]
 pub struct Closed {
-    orders: usize,
-    blocks: usize,
+    pub(crate) orders: usize,
+    pub(crate) blocks: usize,
     ghost few: { (orders ≤ 1024) × (blocks ≤ 64) },
 }
 
 /// A book on which a paper has passed. It comes from judging alone.
 #[derive(Drop)]
 pub struct Passed {
-    orders: usize,
-    blocks: usize,
+    pub(crate) orders: usize,
+    pub(crate) blocks: usize,
     ghost few: { (orders ≤ 1024) × (blocks ≤ 64) },
 }
 

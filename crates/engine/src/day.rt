@@ -3,6 +3,7 @@ ghost use Rattle.engine.specs.Sound.{Sound};
 use market::records::Interval;
 
 pub mod calls;
+mod marks;
 
 /// A day of 1 to 100 intervals. Its fields are private: it changes through the calls alone.
 #[derive(Drop)]

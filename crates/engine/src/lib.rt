@@ -1,3 +1,8 @@
-// The auction day and its book: the calls by which a day is made and judged.
+// The auction day and its book: the calls by which a day is made, judged and settled.
 pub mod book;
+pub mod booking;
 pub mod day;
+pub mod noting;
+pub mod refusal;
+pub mod remainder;
+pub mod settling;

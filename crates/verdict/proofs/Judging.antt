@@ -17,7 +17,7 @@ use Rattle.verdict.specs.Each.{Each}
 use Rattle.market.specs.Bounds.{in-day, order-bounds, block-bounds, outside}
 use Rattle.verdict.specs.Rules.{within, quantity-rule}
 use Rattle.verdict.specs.Worths.{Mild, Spans}
-use Rattle.verdict.specs.Verdict.{lengths-ok, lengths, Sized, bounds, quantities, next}
+use Rattle.verdict.specs.Verdict.{lengths-ok, paper-lengths, lengths, Sized, bounds, quantities, next}
 use Rattle.verdict.specs.Passes.{Fits}
 use Rattle.market.specs.First.{then}
 use Rattle.verdict.specs.Walks.{first-in, first-filled}
@@ -27,14 +27,17 @@ use Rattle.market.proofs.Facts.{tests-out, tests-back, order-tests, block-tests
 use Rattle.verdict.proofs.Sizes.{fill-small, span-small}
 
 -- ---- the lengths
-pub fits-from : (day : List Interval) (os : List Order) (fs : List ℕ) (bs : List Block) (gs : List ℕ) → lengths day os fs bs gs ≡ Ok tt → Fits day os fs bs gs
-fits-from day os fs bs gs e =
-    let t : (leb (length day) 100 && lengths-ok os fs bs gs) ≡ true = tests-out (((leb (length day) 100 && lengths-ok os fs bs gs), _) ∷ []) e .0 in
-    let p = and-parts (leb (length day) 100) (lengths-ok os fs bs gs) t in
+pub sized-from : (n : ℕ) (os : List Order) (fs : List ℕ) (bs : List Block) (gs : List ℕ) → paper-lengths n os fs bs gs ≡ Ok tt → (n ≤ 100) × Sized os fs bs gs
+sized-from n os fs bs gs e =
+    let t : (leb n 100 && lengths-ok os fs bs gs) ≡ true = tests-out (((leb n 100 && lengths-ok os fs bs gs), _) ∷ []) e .0 in
+    let p = and-parts (leb n 100) (lengths-ok os fs bs gs) t in
     let q = and-parts (eqb (length os) (length fs)) (eqb (length bs) (length gs) && (leb (length os) 1024 && leb (length bs) 64)) (p .1) in
     let r = and-parts (eqb (length bs) (length gs)) (leb (length os) 1024 && leb (length bs) 64) (q .1) in
     let s = and-parts (leb (length os) 1024) (leb (length bs) 64) (r .1) in
-    record { short = leb-true _ _ (p .0); sized = record { orders = eqb-true _ _ (q .0); blocks = eqb-true _ _ (r .0); few = leb-true _ _ (s .0); fewer = leb-true _ _ (s .1) } }
+    (leb-true _ _ (p .0), record { orders = eqb-true _ _ (q .0); blocks = eqb-true _ _ (r .0); few = leb-true _ _ (s .0); fewer = leb-true _ _ (s .1) })
+
+pub fits-from : (day : List Interval) (os : List Order) (fs : List ℕ) (bs : List Block) (gs : List ℕ) → lengths day os fs bs gs ≡ Ok tt → Fits day os fs bs gs
+fits-from day os fs bs gs e = let p = sized-from (length day) os fs bs gs e in record { short = p .0; sized = p .1 }
 
 pub fits-test : (day : List Interval) (os : List Order) (fs : List ℕ) (bs : List Block) (gs : List ℕ) → Fits day os fs bs gs → (leb (length day) 100 && lengths-ok os fs bs gs) ≡ true
 fits-test day os fs bs gs h =

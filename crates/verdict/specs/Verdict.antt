@@ -30,9 +30,13 @@ pub record Sized (os : List Order) (fs : List ℕ) (bs : List Block) (gs : List 
 abbrev pub lengths-ok : List Order → List ℕ → List Block → List ℕ → Bool
 lengths-ok os fs bs gs = eqb (length os) (length fs) && (eqb (length bs) (length gs) && (leb (length os) 1024 && leb (length bs) 64))
 
--- 11: a day of at most 100 intervals, and a paper of lawful lengths
+-- 11: at most n = 100 intervals, and a paper of lawful lengths
+abbrev pub paper-lengths : ℕ → List Order → List ℕ → List Block → List ℕ → Result Unit Refusal
+paper-lengths n os fs bs gs = tests ((leb n 100 && lengths-ok os fs bs gs, Short) ∷ [])
+
+-- the same of a day
 abbrev pub lengths : List Interval → List Order → List ℕ → List Block → List ℕ → Result Unit Refusal
-lengths day os fs bs gs = tests ((leb (length day) 100 && lengths-ok os fs bs gs, Short) ∷ [])
+lengths day os fs bs gs = paper-lengths (length day) os fs bs gs
 
 -- the entry of the first block
 abbrev pub next : List Order → ℕ
@@ -46,6 +50,18 @@ bounds n os bs = then (first-in (λ o k. outside k (order-bounds n o)) os 1) (fi
 abbrev pub quantities : List Order → List ℕ → List Block → List ℕ → Result Unit Refusal
 quantities os fs bs gs =
     then (first-filled (λ o. quantity-rule (o .quantity)) os fs 1) (first-filled (λ b. quantity-rule (b .quantity)) bs gs (next os))
+
+-- 11, 12, 13: a paper on a book in a day of n intervals, before any price is looked at
+abbrev pub paper-checks : ℕ → List Order → List ℕ → List Block → List ℕ → Result Unit Refusal
+paper-checks n os fs bs gs = then (paper-lengths n os fs bs gs) (then (bounds n os bs) (quantities os fs bs gs))
+
+-- the test of the lengths of a book in a day of n intervals
+abbrev pub book-lengths-ok : ℕ → List Order → List Block → Bool
+book-lengths-ok n os bs = leb n 100 && (leb (length os) 1024 && leb (length bs) 64)
+
+-- 11, 12: a book without a paper
+abbrev pub book-checks : ℕ → List Order → List Block → Result Unit Refusal
+book-checks n os bs = then (tests ((book-lengths-ok n os bs, Short) ∷ [])) (bounds n os bs)
 
 -- 14 and 15 by entry of the orders, then 16 and 17 by entry of the blocks
 abbrev pub prices : List Interval → List Order → List ℕ → List Block → List ℕ → Result Unit Refusal

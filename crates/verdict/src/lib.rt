@@ -3,6 +3,8 @@ ghost use mathlib.Core.Path.{_≡_};
 ghost use Rattle.verdict.specs.Best.{Best-if-passed};
 ghost use Rattle.verdict.specs.Broken.{Judged};
 ghost use Rattle.verdict.specs.Verdict.{verdict-of};
+pub use checks::check_book;
+pub use checks::check_paper;
 use market::records::Block;
 use market::records::Interval;
 use market::records::Order;
@@ -10,6 +12,7 @@ use market::refusal::Refusal;
 use phases::examine;
 
 mod balance;
+mod checks;
 mod phases;
 mod rules;
 mod walk;

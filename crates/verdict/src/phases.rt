@@ -3,7 +3,7 @@ ghost use mathlib.Core.Path.{_≡_};
 ghost use Prim.Native.Nat.{ℕ, _+_, _≤_};
 ghost use lib.ListN.{length};
 ghost use Rattle.std.specs.declared.result.Result.the-variants.{Ok};
-ghost use Rattle.verdict.specs.Verdict.{lengths as lengthsOf, lengths-ok, bounds as boundsOf, quantities as quantitiesOf, prices as pricesOf};
+ghost use Rattle.verdict.specs.Verdict.{paper-lengths as lengthsOf, lengths-ok, bounds as boundsOf, quantities as quantitiesOf, prices as pricesOf};
 ghost use Rattle.verdict.specs.Verdict.{balances as balancesOf, verdict-of, Sized};
 ghost use Rattle.verdict.specs.Balance.{welfare as welfareOf};
 use super::balance::Balance;
@@ -28,11 +28,11 @@ use market::records::Interval;
 use market::records::Order;
 use market::refusal::Refusal;
 
-const MOST_INTERVALS: usize = 100;
+pub(crate) const MOST_INTERVALS: usize = 100;
 
-const MOST_ORDERS: usize = 1024;
+pub(crate) const MOST_ORDERS: usize = 1024;
 
-const MOST_BLOCKS: usize = 64;
+pub(crate) const MOST_BLOCKS: usize = 64;
 
 fn has_lawful_lengths(
     orders: &[Order],
@@ -48,16 +48,16 @@ fn has_lawful_lengths(
         && blocks.len() <= MOST_BLOCKS
 }
 
-fn lengths(
-    day: &[Interval],
+pub(crate) fn lengths(
+    intervals: usize,
     orders: &[Order],
     order_fills: &[u32],
     blocks: &[Block],
     block_fills: &[u32],
 ) -> Result<(), Refusal>
-    ensures { λ r. ⌜ r ≡ lengthsOf (now (day .entry)) (now (orders .entry)) (now («order_fills» .entry)) (now (blocks .entry)) (now («block_fills» .entry)) ⌝ }
+    ensures { λ r. ⌜ r ≡ lengthsOf intervals (now (orders .entry)) (now («order_fills» .entry)) (now (blocks .entry)) (now («block_fills» .entry)) ⌝ }
 {
-    if day.len() <= MOST_INTERVALS && has_lawful_lengths(orders, order_fills, blocks, block_fills) {
+    if intervals <= MOST_INTERVALS && has_lawful_lengths(orders, order_fills, blocks, block_fills) {
         Ok(())
     } else {
         Err(Refusal::Short)
@@ -72,7 +72,7 @@ fn next_entry(orders: &[Order]) -> u32
     orders.len() as u32 + 1
 }
 
-fn bounds(intervals: usize, orders: &[Order], blocks: &[Block]) -> Result<(), Refusal>
+pub(crate) fn bounds(intervals: usize, orders: &[Order], blocks: &[Block]) -> Result<(), Refusal>
     requires few { ⌜ (length (now orders) ≤ 1024) × (length (now blocks) ≤ 64) ⌝ }
     ensures { λ r. ⌜ r ≡ boundsOf intervals (now (orders .entry)) (now (blocks .entry)) ⌝ }
 {
@@ -81,7 +81,7 @@ fn bounds(intervals: usize, orders: &[Order], blocks: &[Block]) -> Result<(), Re
     first_refused(&bounds, blocks, next_entry(orders))
 }
 
-fn quantities(
+pub(crate) fn quantities(
     orders: &[Order],
     order_fills: &[u32],
     blocks: &[Block],
@@ -156,7 +156,7 @@ pub(crate) fn examine(
 ) -> Result<i64, Refusal>
     ensures { λ r. ⌜ r ≡ verdict-of (now (day .entry)) (now (orders .entry)) (now («order_fills» .entry)) (now (blocks .entry)) (now («block_fills» .entry)) ⌝ }
 {
-    lengths(day, orders, order_fills, blocks, block_fills)?;
+    lengths(day.len(), orders, order_fills, blocks, block_fills)?;
     bounds(day.len(), orders, blocks)?;
     quantities(orders, order_fills, blocks, block_fills)?;
     prices(day, orders, order_fills, blocks, block_fills)?;
