@@ -7,7 +7,6 @@ use native.Mathlib.Omega.{arith}
 use lib.Dec.{leb}
 use lib.IntN.{ℤ, pos, natAbs}
 use lib.ListN.{length, take}
-use lib.Signed.{_≤ℤ_}
 use borrow.Author.Differences.{ints, abs-is}
 use Rattle.std.specs.declared.result.Result.{Result}
 use Rattle.std.specs.declared.result.Result.the-variants.{Ok, Err}
@@ -50,9 +49,6 @@ module _ (p : Passed) (d : Day) (os : List Order) (bs : List Block) (i : ℤ) (e
       let b = between-two (pos 1) i (pos (d .count)) (passed-tests .0) in
       let most = d .sound .2 in
       omega (arith, ints, abs-is i)
-
-  pub positive : pos 1 ≤ℤ i
-  positive = between-two (pos 1) i (pos (d .count)) (passed-tests .0) .0
 
   pub orders-held : p .orders ≤ length os
   orders-held = leb-true _ _ (and-parts (leb (p .orders) (length os)) (leb (p .blocks) (length bs)) (passed-tests .1 .1 .0) .0)

@@ -1,7 +1,7 @@
 // Booking a remainder, and the worth of what is still open.
 ghost use mathlib.Core.Path.{_≡_};
 ghost use Prim.Native.Nat.{_<_, _≤_};
-ghost use lib.IntN.{natAbs};
+ghost use lib.IntN.{negℤ, natAbs};
 ghost use lib.ListN.{getD};
 ghost use Rattle.market.specs.Blank.{fresh};
 ghost use Rattle.engine.specs.Booking.{Booking, open-part, open-worth};
@@ -13,6 +13,14 @@ use ledger::Ledger;
 use market::records::Mark;
 
 const BALANCING: u32 = 1;
+
+// What is taken where an amount is given.
+fn opposite(amount: i64) -> i64
+    requires { ⌜ natAbs amount ≤ 6871947673600000 ⌝ }
+    ensures { λ r. ⌜ r ≡ negℤ amount ⌝ }
+{
+    -amount
+}
 
 impl Day {
     /// Posts minus the worth of a remainder to account 1 and closes its interval: 22 where the day does not show the interval out
@@ -29,7 +37,7 @@ impl Day {
         }
         let place = remainder.interval as usize - 1;
         let worth = self.terms_at(place).worth(remainder.steps);
-        match ledger.post(BALANCING, -worth) {
+        match ledger.post(BALANCING, opposite(worth)) {
             Err(refused) => Err(Returned {
                 refusal: Refusal::Posting(refused),
                 remainder,

@@ -6,3 +6,4 @@ pub mod noting;
 pub mod refusal;
 pub mod remainder;
 pub mod settling;
+pub mod words;

@@ -2,9 +2,13 @@
 ghost use mathlib.Core.Path.{_≡_};
 ghost use Rattle.engine.specs.Refusals.{numberOf, placeOf};
 use ledger::PostRefused;
+use ledger::PostRefusedDebug;
+use ledger::PostRefusedPartialEq;
+use market::refusal::RefusalDebug as MarketDebug;
+use market::refusal::RefusalPartialEq as MarketPartialEq;
 
 /// The refusals of the settling calls, and what comes from below.
-#[derive(Clone, Copy)]
+#[derive(Clone, Copy, PartialEq, Eq, Debug)]
 pub enum Refusal {
     /// The interval, a memory, a record or a fill.
     Market(market::refusal::Refusal),

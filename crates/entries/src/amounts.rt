@@ -1,7 +1,7 @@
 // The amounts of an interval, in grains.
 ghost use mathlib.Core.Path.{_≡_};
 ghost use Prim.Native.Nat.{_≤_};
-ghost use lib.IntN.{natAbs};
+ghost use lib.IntN.{natAbs, negℤ};
 ghost use Rattle.cuts.specs.Numbers.{signed as signedBy};
 ghost use Rattle.entries.specs.Amounts.{conditions, worth as worthOf, posting-of, exchange as exchangeOf};
 use super::book::Party;
@@ -56,13 +56,22 @@ pub(crate) fn posting_of(terms: Terms, party: Party, steps: u32) -> Option<Posti
     })
 }
 
+// What is taken where an amount is given.
+fn opposite(amount: i64) -> i64
+    requires { ⌜ natAbs amount ≤ 6871947673600000 ⌝ }
+    ensures { λ r. ⌜ r ≡ negℤ amount ⌝ }
+{
+    -amount
+}
+
 /// Minus R's amount, for the exchange.
 pub(crate) fn exchange(terms: Terms) -> Posting
     ensures { λ r. ⌜ r ≡ exchangeOf (conditions terms) ⌝ }
 {
-    let amount = terms.worth(terms.rounded);
+    let owed = terms.worth(terms.rounded);
+    let amount = opposite(owed);
     Posting {
         account: EXCHANGE,
-        amount: -amount,
+        amount,
     }
 }

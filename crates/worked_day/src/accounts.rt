@@ -16,9 +16,31 @@ use ledgers::TableLedger;
 use std::error::AnyError;
 
 // The number from which on the accounts are those of the firms.
-const BORDER: u32 = 2;
+pub(crate) const BORDER: u32 = 2;
 
-fn show_balances<L: Accounts>(rt: &LibcRuntime, ledger: &L) -> Result<(), AnyError> {
+// The accounts of the firms, at the start.
+pub(crate) const FIRMS: [Account; 3] = [
+    Account {
+        number: 11,
+        balance: 0,
+        lower: 0,
+        upper: 1_000_000,
+    },
+    Account {
+        number: 12,
+        balance: 0,
+        lower: 0,
+        upper: 200_000,
+    },
+    Account {
+        number: 13,
+        balance: 0,
+        lower: -1_000_000,
+        upper: 0,
+    },
+];
+
+pub(crate) fn show_balances<L: Accounts>(rt: &LibcRuntime, ledger: &L) -> Result<(), AnyError> {
     for place in 0..ledger.count() {
         if let Some(account) = ledger.account_at(place + 1) {
             let balance = ledger.balance(account).unwrap_or(0);
@@ -52,26 +74,7 @@ fn post<L: Ledger>(
 
 /// Opens the accounts of the day, and makes two postings of which the second exceeds an account's bound.
 pub(crate) fn show_accounts(rt: &LibcRuntime) -> Result<(), AnyError> {
-    let mut firms = [
-        Account {
-            number: 11,
-            balance: 0,
-            lower: 0,
-            upper: 1_000_000,
-        },
-        Account {
-            number: 12,
-            balance: 0,
-            lower: 0,
-            upper: 200_000,
-        },
-        Account {
-            number: 13,
-            balance: 0,
-            lower: -1_000_000,
-            upper: 0,
-        },
-    ];
+    let mut firms = FIRMS;
     let mut ledger = Joined {
         first: Operator::new(),
         second: Table {

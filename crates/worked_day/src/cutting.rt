@@ -7,7 +7,7 @@ use market::records::Market;
 use market::records::Order;
 use std::error::AnyError;
 
-const NO_BLOCK: BlockCandidate = BlockCandidate {
+pub(crate) const NO_BLOCK: BlockCandidate = BlockCandidate {
     steps: 0,
     limit: 0,
     stamp: 0,
@@ -15,7 +15,7 @@ const NO_BLOCK: BlockCandidate = BlockCandidate {
     entry: 0,
 };
 
-const NO_ORDER: OrderCandidate = OrderCandidate {
+pub(crate) const NO_ORDER: OrderCandidate = OrderCandidate {
     market: Market::Spot,
     rest: NO_BLOCK,
 };

@@ -14,10 +14,12 @@ use market::records::Order;
 use market::records::Side;
 use market::words::RefusalDisplay;
 use market::words::RefusalError;
+use settling::show_settling;
 use std::error::AnyError;
 
 mod accounts;
 mod cutting;
+mod settling;
 
 const PRICE: i32 = 5_000;
 
@@ -135,9 +137,19 @@ fn run(rt: &LibcRuntime) -> Result<(), AnyError> {
     match judge(rt, closed, &day, &memory, &FIRST_PAPER)? {
         Outcome::Passed(_) => Err("the first paper should have been refused".into()),
         Outcome::Refused(closed) => {
-            let _ = judge(rt, closed, &day, &memory, &SECOND_PAPER)?;
+            let second = judge(rt, closed, &day, &memory, &SECOND_PAPER)?;
             show_cuts(rt, &memory, &SECOND_PAPER, ROUNDED)?;
-            show_accounts(rt)
+            show_accounts(rt)?;
+            match second {
+                Outcome::Passed(passed) => show_settling(
+                    rt,
+                    &passed,
+                    &mut day,
+                    &memory,
+                    &SECOND_PAPER,
+                ),
+                Outcome::Refused(_) => Err("the second paper should have passed".into()),
+            }
         }
     }
 }

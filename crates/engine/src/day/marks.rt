@@ -127,10 +127,10 @@ impl Day {
         requires { ⌜ place < 100 ⌝ }
         ensures { λ r. ⌜ conditions r ≡ conditions-in (now (self .entry) .minutes) (getD (now (self .entry) .intervals) place fresh) ⌝ }
     {
-        let record = self.intervals[place];
+        let shown = self.intervals[place];
         Terms {
-            price: record.price,
-            rounded: record.rounded,
+            price: shown.price,
+            rounded: shown.rounded,
             quarters: self.minutes as u32 / MINUTES_PER_QUARTER,
         }
     }

@@ -2,8 +2,8 @@ use mathlib.Core.Path.{_≡_, refl, sym, ap, _∙_}
 use mathlib.Core.Bool.{true, false}
 use native.Mathlib.Omega.{arith}
 use borrow.Author.Needs.{needs}
-use borrow.Author.Differences.{ints, abs-is}
-use lib.IntN.{ℤ, pos, negℤ, _-ℤ_}
+use borrow.Author.Differences.{ints}
+use lib.IntN.{ℤ, negℤ}
 use lib.ListN.{set}
 use mir.Syntax.{w32, w64}
 use mir.Val.{SFits, toZ, ofZ}
@@ -30,13 +30,6 @@ returns-then-not-shows-out g c =
       keeps = g .L·Ledger .unmoved (c .args .ledger .now);
     }
 
-pub sub-worth : need.sub-worth
-sub-worth g c =
-    let x : ℤ = c .worth-worth .result in
-    let small = c .worth-worth .ensures .small in
-    let w : SFits w64 x = search needs in
-    rw (toZ-ofZ w64 x w) (omega (arith, ints, abs-is x))
-
 pub put-mark-requires : need.put-mark-requires
 put-mark-requires g c κs =
     let t = c .args .remainder in
@@ -55,10 +48,10 @@ returns-in-Err g c =
     let fits : toZ w64 (ofZ w64 x) ≡ x = toZ-ofZ w64 x w in
     let yes : shows-out d (t .interval) (t .steps) ≡ true = ap (λ (y : ℤ). shows-out d y (t .steps)) (sym i) ∙ ap (shows-out d (toZ w32 (ofZ w32 (t .interval)))) (sym z) ∙ sym (c .shows-out .ensures) ∙ c .if-not-shows-out .left in
     let is : x ≡ worth (conditions-of d (t .interval)) (t .steps) = c .worth-worth .ensures .is ∙ ap (λ (y : ℤ). worth (conditions (c .terms-at .result)) y) z ∙ ap (λ (k : Conditions). worth k (t .steps)) (c .terms-at .ensures ∙ ap (conditions-of d) i) in
-    let y : ℤ = pos 0 -ℤ toZ w64 (ofZ w64 x) in
-    let minus : y ≡ negℤ x = ap (λ (v : ℤ). pos 0 -ℤ v) fits ∙ omega (arith, ints) in
-    let v : SFits w64 (negℤ x) = omega (arith, ints, abs-is x) in
-    let amount : toZ w64 (ofZ w64 y) ≡ booked d t = ap (λ (u : ℤ). toZ w64 (ofZ w64 u)) minus ∙ toZ-ofZ w64 (negℤ x) v ∙ ap negℤ is in
+    let y : ℤ = c .opposite .result in
+    let minus : y ≡ negℤ x = c .opposite .ensures ∙ ap negℤ fits in
+    let v : SFits w64 y = search needs in
+    let amount : toZ w64 (ofZ w64 y) ≡ booked d t = toZ-ofZ w64 y v ∙ minus ∙ ap negℤ is in
     let no : answer m balancing (booked d t) ≡ Err (c .in-Err .refused) = ap (answer m balancing) (sym amount) ∙ sym (c .in-Err .ensures tt .answers) in
     record {
       books = (
@@ -83,10 +76,10 @@ returns-in-Ok g c =
     let fits : toZ w64 (ofZ w64 x) ≡ x = toZ-ofZ w64 x w in
     let yes : shows-out d (t .interval) (t .steps) ≡ true = ap (λ (y : ℤ). shows-out d y (t .steps)) (sym i) ∙ ap (shows-out d (toZ w32 (ofZ w32 (t .interval)))) (sym z) ∙ sym (c .shows-out .ensures) ∙ c .if-not-shows-out .left in
     let is : x ≡ worth (conditions-of d (t .interval)) (t .steps) = c .worth-worth .ensures .is ∙ ap (λ (y : ℤ). worth (conditions (c .terms-at .result)) y) z ∙ ap (λ (k : Conditions). worth k (t .steps)) (c .terms-at .ensures ∙ ap (conditions-of d) i) in
-    let y : ℤ = pos 0 -ℤ toZ w64 (ofZ w64 x) in
-    let minus : y ≡ negℤ x = ap (λ (v : ℤ). pos 0 -ℤ v) fits ∙ omega (arith, ints) in
-    let v : SFits w64 (negℤ x) = omega (arith, ints, abs-is x) in
-    let amount : toZ w64 (ofZ w64 y) ≡ booked d t = ap (λ (u : ℤ). toZ w64 (ofZ w64 u)) minus ∙ toZ-ofZ w64 (negℤ x) v ∙ ap negℤ is in
+    let y : ℤ = c .opposite .result in
+    let minus : y ≡ negℤ x = c .opposite .ensures ∙ ap negℤ fits in
+    let v : SFits w64 y = search needs in
+    let amount : toZ w64 (ofZ w64 y) ≡ booked d t = toZ-ofZ w64 y v ∙ minus ∙ ap negℤ is in
     let taken : answer m balancing (booked d t) ≡ Ok tt = ap (answer m balancing) (sym amount) ∙ sym (c .in-Ok .ensures tt .answers) in
     let put = c .put-mark .ensures in
     let posts = c .post .ensures .posts ∙ ap (after m balancing) amount in
