@@ -19,7 +19,7 @@ use market::refusal::Refusal as MarketRefusal;
 use market::refusal::RefusalDebug;
 use std::test::*;
 
-pub const NO_BLOCK: BlockCandidate = BlockCandidate {
+pub(crate) const NO_BLOCK: BlockCandidate = BlockCandidate {
     steps: 0,
     limit: 0,
     stamp: 0,
@@ -27,14 +27,14 @@ pub const NO_BLOCK: BlockCandidate = BlockCandidate {
     entry: 0,
 };
 
-pub const NO_ORDER: OrderCandidate = OrderCandidate {
+pub(crate) const NO_ORDER: OrderCandidate = OrderCandidate {
     market: Market::Spot,
     rest: NO_BLOCK,
 };
 
-pub const FILLS: [u32; 3] = [10_000, 2_350, 12_000];
+pub(crate) const FILLS: [u32; 3] = [10_000, 2_350, 12_000];
 
-pub fn orders(price: i32) -> [Order; 3] {
+pub(crate) fn orders(price: i32) -> [Order; 3] {
     let sell = Order {
         side: Side::Sell,
         interval: 1,
@@ -72,7 +72,7 @@ fn enter_all(
 }
 
 /// The day with its net position of 350 thousandths rounded to so many steps, and its passed book.
-pub fn passed_day(
+pub(crate) fn passed_day(
     minutes: i32,
     price: i32,
     rounded: i32,
@@ -92,7 +92,7 @@ pub fn passed_day(
 }
 
 /// Settles interval 1 of such a day, and notes its remainder, which is never refused: it was just handed over.
-pub fn settle_and_note<L: Ledger>(
+pub(crate) fn settle_and_note<L: Ledger>(
     passed: &Passed,
     day: &mut Day,
     price: i32,
@@ -129,7 +129,7 @@ pub fn settle_and_note<L: Ledger>(
 
 /// What a day that knows nothing of a remainder answers to it: the number with which it refuses to book it, and to note it. The
 /// remainder is that of another day, and is noted there at the end.
-pub fn offered_elsewhere<L: Ledger>(
+pub(crate) fn offered_elsewhere<L: Ledger>(
     passed: &Passed,
     day: &mut Day,
     other: &mut Day,
