@@ -1,3 +1,5 @@
+#![tactic(auto)]
+
 pub mod candidates;
 mod entries;
 mod gather;

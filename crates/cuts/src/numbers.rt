@@ -7,7 +7,7 @@ use crate::rounding::nearest;
 use market::records::Side;
 
 fn number<E: Entry>(interval: u32, entry: &E, fill: u32) -> u32
-    ensures { result ≡ number kind interval entry.now fill }
+    ensures { result ≡ number E.kind interval entry.now fill }
 {
     if entry.covers(interval) {
         nearest(fill)
@@ -25,7 +25,7 @@ pub(crate) fn write_rounded<E: Entry>(
 )
     requires fills { length fills.now ≡ length entries.now }
     requires room { length numbers.old ≡ length entries.now }
-    ensures { numbers.new ≡ rounded_numbers kind interval entries.now fills.now }
+    ensures { numbers.new ≡ rounded_numbers E.kind interval entries.now fills.now }
 {
     for i in 0..entries.len() {
         numbers[i] = number(interval, &entries[i], fills[i]);
@@ -46,7 +46,7 @@ fn signed(side: Side, number: u32) -> i64
 pub(crate) fn net<E: Entry>(entries: &[E], numbers: &[u32]) -> i64
     requires same { length numbers.now ≡ length entries.now }
     requires few { length entries.now ≤ 1024 }
-    ensures is { result ≡ net kind entries.now numbers.now }
+    ensures is { result ≡ net E.kind entries.now numbers.now }
     ensures small { Within (4294967296 * 1024) result }
 {
     let mut sum = 0;

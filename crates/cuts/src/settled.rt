@@ -1,7 +1,7 @@
 // From a book, its fills, an interval and R to the settled numbers.
 ghost use Rattle.std.specs.Prelude.{◌≡◌, ℕ, ◌+◌, ◌≤◌, true, ◌&&◌, ◌++◌, length, take, drop, ℤ, if◌then◌else◌, Some, None};
 ghost use Rattle.cuts.specs.Numbers.{rounded_numbers};
-ghost use Rattle.cuts.specs.Kinds.{orders as orders_kind, blocks as blocks_Kind};
+ghost use Rattle.cuts.specs.Kinds.{orders as orders_kind, blocks as blocks_kind};
 ghost use Rattle.cuts.specs.Stages.{last_step, stage_cut};
 ghost use Rattle.cuts.specs.SettledLaws.{Settles};
 ghost use Rattle.cuts.specs.Settled.{ranked_places, stage_of, two_stages, balance, gap_of, orders_cut, blocks_cut, settled_numbers, remainder_of, sizes_fit, lists_fit, Sizes};
@@ -29,8 +29,8 @@ fn run_stage<C: Candidate + Copy, E: Stands<C>>(
 ) -> u64
     requires fills { length fills.now ≡ length entries.now }
     requires room { length entries.now ≤ length list.old }
-    ensures numbers { numbers.new ≡ (stage_cut last_step (ranked_places E.Entry.kind E.Stands.stands C.Rank.before C.Candidate.place entries.now fills.now stage) numbers.old gap).numbers }
-    ensures left { result ≡ (stage_cut last_step (ranked_places E.Entry.kind E.Stands.stands C.Rank.before C.Candidate.place entries.now fills.now stage) numbers.old gap).left }
+    ensures numbers { numbers.new ≡ (stage_cut last_step (ranked_places E.kind E.stands C.before C.place entries.now fills.now stage) numbers.old gap).numbers }
+    ensures left { result ≡ (stage_cut last_step (ranked_places E.kind E.stands C.before C.place entries.now fills.now stage) numbers.old gap).left }
 {
     let count = gather(entries, fills, stage, list);
     run_turns(&list[0..count], numbers, gap)
@@ -48,8 +48,8 @@ fn cut_kind<C: Candidate + Copy, E: Stands<C>>(
 ) -> u64
     requires fills { length fills.now ≡ length entries.now }
     requires room { length entries.now ≤ length list.old }
-    ensures numbers { numbers.new ≡ (two_stages last_step (λ f. ranked_places E.Entry.kind E.Stands.stands C.Rank.before C.Candidate.place entries.now fills.now (stage_of interval gap f)) numbers.old left).numbers }
-    ensures left { result ≡ (two_stages last_step (λ f. ranked_places E.Entry.kind E.Stands.stands C.Rank.before C.Candidate.place entries.now fills.now (stage_of interval gap f)) numbers.old left).left }
+    ensures numbers { numbers.new ≡ (two_stages last_step (λ f. ranked_places E.kind E.stands C.before C.place entries.now fills.now (stage_of interval gap f)) numbers.old left).numbers }
+    ensures left { result ≡ (two_stages last_step (λ f. ranked_places E.kind E.stands C.before C.place entries.now fills.now (stage_of interval gap f)) numbers.old left).left }
 {
     let left = run_stage(
         entries,
@@ -102,7 +102,7 @@ fn write_all(
     numbers: &mut [u32],
 )
     requires { Sizes (length orders.now) (length order_fills.now) (length blocks.now) (length block_fills.now) (length numbers.old) }
-    ensures { numbers.new ≡ rounded_numbers orders_kind interval orders.now order_fills.now ++ (rounded_numbers blocks_Kind interval blocks.now block_fills.now ++ drop (length orders.now + length blocks.now) numbers.old) }
+    ensures { numbers.new ≡ rounded_numbers orders_kind interval orders.now order_fills.now ++ (rounded_numbers blocks_kind interval blocks.now block_fills.now ++ drop (length orders.now + length blocks.now) numbers.old) }
 {
     let count = orders.len();
     write_rounded(orders, order_fills, interval, &mut numbers[0..count]);
@@ -140,7 +140,7 @@ fn cut_all(
     requires sizes { Sizes (length orders.now) (length order_fills.now) (length blocks.now) (length block_fills.now) (length numbers.old) }
     requires lists { (length orders.now ≤ length order_list.old) × (length blocks.now ≤ length block_list.old) }
     requires orders { take (length orders.now) numbers.old ≡ rounded_numbers orders_kind interval orders.now order_fills.now }
-    requires blocks { take (length blocks.now) (drop (length orders.now) numbers.old) ≡ rounded_numbers blocks_Kind interval blocks.now block_fills.now }
+    requires blocks { take (length blocks.now) (drop (length orders.now) numbers.old) ≡ rounded_numbers blocks_kind interval blocks.now block_fills.now }
     ensures { numbers.new ≡ (orders_cut orders.now order_fills.now interval gap).numbers ++ ((blocks_cut blocks.now block_fills.now interval gap (orders_cut orders.now order_fills.now interval gap).left).numbers ++ drop (length orders.now + length blocks.now) numbers.old) }
 {
     let count = orders.len();
@@ -176,7 +176,7 @@ fn round_all(
 ) -> i64
     requires { Sizes (length orders.now) (length order_fills.now) (length blocks.now) (length block_fills.now) (length numbers.old) }
     ensures gap { result ≡ gap_of orders.now order_fills.now blocks.now block_fills.now interval rounded }
-    ensures numbers { numbers.new ≡ rounded_numbers orders_kind interval orders.now order_fills.now ++ (rounded_numbers blocks_Kind interval blocks.now block_fills.now ++ drop (length orders.now + length blocks.now) numbers.old) }
+    ensures numbers { numbers.new ≡ rounded_numbers orders_kind interval orders.now order_fills.now ++ (rounded_numbers blocks_kind interval blocks.now block_fills.now ++ drop (length orders.now + length blocks.now) numbers.old) }
 {
     write_all(orders, order_fills, blocks, block_fills, interval, numbers);
     balance(orders, blocks, numbers, rounded)
@@ -234,7 +234,7 @@ pub fn rounded_numbers(
     numbers: &mut [u32],
 ) -> Option<i64>
     ensures gap { result ≡ (if sizes_fit (length orders.now) (length order_fills.now) (length blocks.now) (length block_fills.now) (length numbers.old) then Some (gap_of orders.now order_fills.now blocks.now block_fills.now interval rounded) else None) }
-    ensures numbers { numbers.new ≡ (if sizes_fit (length orders.now) (length order_fills.now) (length blocks.now) (length block_fills.now) (length numbers.old) then rounded_numbers orders_kind interval orders.now order_fills.now ++ (rounded_numbers blocks_Kind interval blocks.now block_fills.now ++ drop (length orders.now + length blocks.now) numbers.old) else numbers.old) }
+    ensures numbers { numbers.new ≡ (if sizes_fit (length orders.now) (length order_fills.now) (length blocks.now) (length block_fills.now) (length numbers.old) then rounded_numbers orders_kind interval orders.now order_fills.now ++ (rounded_numbers blocks_kind interval blocks.now block_fills.now ++ drop (length orders.now + length blocks.now) numbers.old) else numbers.old) }
 {
     if !sizes_fit(
         orders.len(),

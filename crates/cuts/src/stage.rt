@@ -10,8 +10,8 @@ const LAST: u32 = 1;
 
 // The turn of one candidate: it loses a step, unless it holds no more than its last; false where it loses none.
 fn take_turn<C: Candidate>(list: &[C], numbers: &mut [u32], turn: usize) -> bool
-    ensures loses { result ≡ nat_lt 1 (slice_index (held (map place list.now) numbers.old) turn) }
-    ensures numbers { numbers.new ≡ (if result then one_less numbers.old (slice_index (map place list.now) turn) else numbers.old) }
+    ensures loses { result ≡ nat_lt 1 (slice_index (held (map C.place list.now) numbers.old) turn) }
+    ensures numbers { numbers.new ≡ (if result then one_less numbers.old (slice_index (map C.place list.now) turn) else numbers.old) }
 {
     if turn >= list.len() {
         return false;
@@ -34,8 +34,8 @@ fn next_turn(count: usize, turn: usize) -> usize
 
 // The turns of a stage to its end.
 pub(crate) fn run_turns<C: Candidate>(list: &[C], numbers: &mut [u32], gap: u64) -> u64
-    ensures numbers { numbers.new ≡ (stage_cut last_step (map place list.now) numbers.old gap).numbers }
-    ensures left { result ≡ (stage_cut last_step (map place list.now) numbers.old gap).left }
+    ensures numbers { numbers.new ≡ (stage_cut last_step (map C.place list.now) numbers.old gap).numbers }
+    ensures left { result ≡ (stage_cut last_step (map C.place list.now) numbers.old gap).left }
 {
     let mut left = gap;
     let mut turn = 0;
@@ -48,10 +48,10 @@ pub(crate) fn run_turns<C: Candidate>(list: &[C], numbers: &mut [u32], gap: u64)
 
 /// Cuts the numbers of the candidates in `list`, which are in rank order, and answers the gap that is left.
 pub fn cut_stage<C: Candidate>(list: &[C], numbers: &mut [u32], gap: u64) -> u64
-    ensures numbers { numbers.new ≡ (stage_cut last_step (map place list.now) numbers.old gap).numbers }
-    ensures left { result ≡ (stage_cut last_step (map place list.now) numbers.old gap).left }
-    ensures only { OnlyCuts (map place list.now) numbers.old gap numbers.new result }
-    ensures open_cuts { OpenCutsLaw (map place list.now) numbers.old gap result }
+    ensures numbers { numbers.new ≡ (stage_cut last_step (map C.place list.now) numbers.old gap).numbers }
+    ensures left { result ≡ (stage_cut last_step (map C.place list.now) numbers.old gap).left }
+    ensures only { OnlyCuts (map C.place list.now) numbers.old gap numbers.new result }
+    ensures open_cuts { OpenCutsLaw (map C.place list.now) numbers.old gap result }
 {
     run_turns(list, numbers, gap)
 }

@@ -1,4 +1,6 @@
 // Worked cases of rounding, rank and cuts. Every book here has its entries in interval 1 unless it says otherwise.
+#![tactic(auto)]
+
 #[cfg(test)]
 mod tests {
     use cuts::candidates::{BlockCandidate, OrderCandidate};

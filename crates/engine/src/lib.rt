@@ -1,4 +1,6 @@
 // The auction day and its book: the calls by which a day is made, judged and settled.
+#![tactic(auto)]
+
 pub mod book;
 pub mod booking;
 pub mod day;

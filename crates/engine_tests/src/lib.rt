@@ -1,4 +1,6 @@
 // The tests of the book and its verdict, as tables of cases at the edges.
+#![tactic(auto)]
+
 #[cfg(test)]
 mod books;
 #[cfg(test)]

@@ -1,4 +1,6 @@
 // Settling one interval: its amounts, its postings and its numbers in the sheet, over slices and any ledger.
+#![tactic(auto)]
+
 mod amounts;
 mod book;
 mod checks;

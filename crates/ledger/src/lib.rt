@@ -1,4 +1,6 @@
 // What a ledger is: its reading side, and posting built upon it.
+#![tactic(auto)]
+
 ghost use Rattle.std.specs.Prelude.{◌≡◌, List, length};
 ghost use Rattle.ledger.specs.declared.account.Account.{Account};
 ghost use Rattle.ledger.specs.Model.{Lawful, number_at, balance_of, answer, after};

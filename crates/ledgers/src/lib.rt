@@ -1,4 +1,6 @@
 // Three ledgers: a table of the caller's records, the operator's two accounts, and any two ledgers joined.
+#![tactic(auto)]
+
 mod joined;
 mod laws;
 mod operator;

@@ -1,4 +1,6 @@
 // Tests of the ledgers, and a client that posts to its own records.
+#![tactic(auto)]
+
 #[cfg(test)]
 mod cases;
 #[cfg(test)]

@@ -1,4 +1,6 @@
 // The records of an auction day, the refusals, and the bounds of entry.
+#![tactic(auto)]
+
 pub mod bounds;
 pub mod records;
 pub mod refusal;

@@ -1,4 +1,6 @@
 // Postings in order, all or none, over any ledger.
+#![tactic(auto)]
+
 ghost use Rattle.std.specs.Prelude.{◌≡◌, ℕ, ◌-◌, ◌<◌, Err};
 ghost use Rattle.posting.specs.Postings.{one, listed, answers, left, opposed, undone, SmallAt};
 ghost use Rattle.posting.specs.Laws.{Unmoved, Summed};

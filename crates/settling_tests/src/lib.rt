@@ -1,4 +1,6 @@
 // The tests of settling, booking, noting and taking up.
+#![tactic(auto)]
+
 #[cfg(test)]
 mod blocks;
 #[cfg(test)]

@@ -1,4 +1,6 @@
 // The verdict on a paper: its welfare, or the first rule that it breaks, and where.
+#![tactic(auto)]
+
 ghost use Rattle.std.specs.Prelude.{◌≡◌};
 ghost use Rattle.verdict.specs.Best.{BestIfPassed};
 ghost use Rattle.verdict.specs.Broken.{Judged};

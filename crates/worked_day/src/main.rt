@@ -1,5 +1,7 @@
 // A worked day: it is started, its book is filled and closed, two papers on it are judged, and the one that passes is cut to whole
 // steps of 0.1 MW. Last come accounts to post to.
+#![tactic(auto)]
+
 use accounts::show_accounts;
 use anyhow::anyhow;
 use cutting::show_cuts;

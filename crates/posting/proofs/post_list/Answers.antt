@@ -6,14 +6,14 @@ use Rattle.posting.proofs.post_list.Goals as goal
 pub returns : goal.returns
 returns g c =
     let m = g.L.Accounts.model c.args.ledger.now in
-    let m' = g.L.Accounts.model c.post-all.new.ledger in
+    let m' = g.L.Accounts.model c.post_all.new.ledger in
     let ps = c.args.postings.now in
-    let a : c.post-all.result ≡ answers m ps = c.post-all.ensures.answers ∙ ap (answers m) (listed_all ps) in
-    let p : m' ≡ left m ps = c.post-all.ensures.posts ∙ ap (left m) (listed_all ps) in
+    let a : c.post_all.result ≡ answers m ps = c.post_all.ensures.answers ∙ ap (answers m) (listed_all ps) in
+    let p : m' ≡ left m ps = c.post_all.ensures.posts ∙ ap (left m) (listed_all ps) in
     record {
       answers = a;
       posts = p;
-      keeps = c.post-all.ensures.keeps;
-      unmoved = c.post-all.ensures.unmoved;
-      sums = summed_left c.post-all.result m m' ps a p;
+      keeps = c.post_all.ensures.keeps;
+      unmoved = c.post_all.ensures.unmoved;
+      sums = summed_left c.post_all.result m m' ps a p;
     }

@@ -4,9 +4,9 @@ use Rattle.verdict.proofs.verdict.Goals as goal
 
 pub returns : goal.returns
 returns c =
-    let j = judged c.args.day.now c.args.orders.now c.args.order-fills.now c.args.blocks.now c.args.block-fills.now c.examine.result c.examine.ensures in
+    let j = judged c.args.day.now c.args.orders.now c.args.order_fills.now c.args.blocks.now c.args.block_fills.now c.examine.result c.examine.ensures in
     record {
       exact = c.examine.ensures;
       judged = j;
-      best = best_if c.args.day.now c.args.orders.now c.args.order-fills.now c.args.blocks.now c.args.block-fills.now c.examine.result j;
+      best = best_if c.args.day.now c.args.orders.now c.args.order_fills.now c.args.blocks.now c.args.block_fills.now c.examine.result j;
     }

@@ -6,4 +6,4 @@ use Rattle.cuts.proofs.laws.laws_stand.Goals as goal
 
 pub returns : goal.returns
 returns c =
-    record { orders-rank = ranks_by order_keys; blocks-rank = ranks_by block_keys; no_order = nobody orders order_stands; no_block = nobody blocks block_stands; worked = (refl, refl) }
+    record { orders_rank = ranks_by order_keys; blocks_rank = ranks_by block_keys; no_order = nobody orders order_stands; no_block = nobody blocks block_stands; worked = (refl, refl) }

@@ -8,9 +8,9 @@ pub returns : goal.returns
 returns c =
     let a = length c.args.orders.now in
     let b = length c.args.blocks.now in
-    let p = c.write-rounded.ensures in
-    let q = c.write-rounded-2.ensures in
-    both_written a b c.args.numbers.now c.write-rounded.new.numbers c.write-rounded-2.new.numbers
-    (ap length p ∙ length-rounded orders c.args.interval c.args.orders.now c.args.order-fills.now c.requires.order-fills)
-    (ap length q ∙ length-rounded blocks c.args.interval c.args.blocks.now c.args.block-fills.now c.requires.block-fills)
+    let p = c.write_rounded.ensures in
+    let q = c.write_rounded-2.ensures in
+    both_written a b c.args.numbers.now c.write_rounded.new.numbers c.write_rounded-2.new.numbers
+    (ap length p ∙ length-rounded orders c.args.interval c.args.orders.now c.args.order_fills.now c.requires.order_fills)
+    (ap length q ∙ length-rounded blocks c.args.interval c.args.blocks.now c.args.block_fills.now c.requires.block_fills)
     ∙ ap₂ (λ y z. y ++ (z ++ drop (a + b) c.args.numbers.now)) p q

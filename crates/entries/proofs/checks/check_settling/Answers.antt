@@ -2,14 +2,14 @@ use Rattle.std.proofs.Common.{◌≡◌, sym, ◌∙◌}
 use Rattle.entries.proofs.Checking.{no_interval, too_short, paper_next}
 use Rattle.entries.proofs.checks.check_settling.Goals as goal
 
-pub returns-then-not-has-interval : goal.returns-then-not-has-interval
-returns-then-not-has-interval c =
-    no_interval _ _ _ _ _ _ _ _ _ _ (sym c.has-interval.ensures ∙ c.if-not-has-interval.true)
+pub returns-then-not-has_interval : goal.returns-then-not-has_interval
+returns-then-not-has_interval c =
+    no_interval _ _ _ _ _ _ _ _ _ _ (sym c.has_interval.ensures ∙ c.if-not-has_interval.true)
 
 pub returns-then-not-suffices : goal.returns-then-not-suffices
 returns-then-not-suffices c =
-    too_short _ _ _ _ _ _ _ _ _ _ (sym c.has-interval.ensures ∙ c.if-not-has-interval.false) (sym c.suffices.ensures ∙ c.if-not-suffices.true)
+    too_short _ _ _ _ _ _ _ _ _ _ (sym c.has_interval.ensures ∙ c.if-not-has_interval.false) (sym c.suffices.ensures ∙ c.if-not-suffices.true)
 
 pub returns : goal.returns
 returns c =
-    c.check-paper.ensures ∙ paper_next _ _ _ _ _ _ _ _ _ _ (sym c.has-interval.ensures ∙ c.if-not-has-interval.false) (sym c.suffices.ensures ∙ c.if-not-suffices.false)
+    c.check_paper.ensures ∙ paper_next _ _ _ _ _ _ _ _ _ _ (sym c.has_interval.ensures ∙ c.if-not-has_interval.false) (sym c.suffices.ensures ∙ c.if-not-suffices.false)

@@ -14,9 +14,9 @@ returns-in-Err g c =
     let w = sheet_with c.args.book.orders.now c.args.book.blocks.now c.args.layout.intervals c.args.layout.interval c.args.numbers.now s in
     record {
       answers = ap (λ (a : Result (Unit {0}) PostRefused). with_steps a c.args.steps) c.in-Err.ensures.answers;
-      posts = c.post-all.ensures.posts;
+      posts = c.post_all.ensures.posts;
       writes = ap (λ (a : Result (Unit {0}) PostRefused). if_taken a w s) c.in-Err.ensures.answers;
-      keeps = c.post-all.ensures.keeps;
+      keeps = c.post_all.ensures.keeps;
     }
 
 pub returns-in-Ok : goal.returns-in-Ok
@@ -27,7 +27,7 @@ returns-in-Ok g c =
     let f : SFits w32 c.args.steps = search rules in
     record {
       answers = ap (λ (z : ℤ). Ok z) (to_z-of_z w32 c.args.steps f) ∙ ap (λ (a : Result (Unit {0}) PostRefused). with_steps a c.args.steps) c.in-Ok.ensures.answers;
-      posts = c.post-all.ensures.posts;
-      writes = c.write-numbers.ensures ∙ ap (λ (a : Result (Unit {0}) PostRefused). if_taken a w s) c.in-Ok.ensures.answers;
-      keeps = c.post-all.ensures.keeps;
+      posts = c.post_all.ensures.posts;
+      writes = c.write_numbers.ensures ∙ ap (λ (a : Result (Unit {0}) PostRefused). if_taken a w s) c.in-Ok.ensures.answers;
+      keeps = c.post_all.ensures.keeps;
     }

@@ -10,8 +10,8 @@ use Rattle.entries.specs.Settles.{with_steps, settle_list, settle_sheet}
 use Rattle.entries.proofs.Checking.{front_is}
 use Rattle.entries.proofs.settling.settle_checked.Goals as goal
 
-pub carry-out-requires : goal.carry-out-requires
-carry-out-requires g c =
+pub carry_out-requires : goal.carry_out-requires
+carry_out-requires g c =
     let os = c.args.book.orders.now in
     let fs = c.args.fills.orders.now in
     let bs = c.args.book.blocks.now in
@@ -22,7 +22,7 @@ carry-out-requires g c =
       few = omega (arith, sized.orders, sized.blocks);
       laid = c.requires.laid;
       orders = refl;
-      numbers = ap length (front_is (length os + length bs) _ _ _ long c.settle-numbers-steps.ensures.numbers) ∙ long;
+      numbers = ap length (front_is (length os + length bs) _ _ _ long c.settle_numbers-steps.ensures.numbers) ∙ long;
     }
 
 pub returns : goal.returns
@@ -38,12 +38,12 @@ returns g c =
     let s = c.args.sheet.now in
     let m = g.L.Accounts.model c.args.ledger.now in
     let sized = c.requires.sized in
-    let f : SFits w32 c.settle-numbers-steps.result = search rules in
+    let f : SFits w32 c.settle_numbers-steps.result = search rules in
     let long = length_settled os fs bs gs i t.rounded sized.order_fills sized.block_fills in
-    let part : take ((length os + length bs) - 0) c.settle-numbers-steps.new.numbers ≡ settled_numbers os fs bs gs i t.rounded = front_is (length os + length bs) _ _ _ long c.settle-numbers-steps.ensures.numbers in
+    let part : take ((length os + length bs) - 0) c.settle_numbers-steps.new.numbers ≡ settled_numbers os fs bs gs i t.rounded = front_is (length os + length bs) _ _ _ long c.settle_numbers-steps.ensures.numbers in
     record {
-      answers = (simp to_z-of_z at c.carry-out.ensures.answers) ∙ ap₂ (λ (ns : List ℕ) (z : ℤ). with_steps (answers m (settle_postings os bs ns t)) z) part c.settle-numbers-steps.ensures.steps;
-      posts = c.carry-out.ensures.posts ∙ ap (λ (ns : List ℕ). left m (settle_postings os bs ns t)) part;
-      writes = c.carry-out.ensures.writes ∙ ap (λ (ns : List ℕ). if_taken (answers m (settle_postings os bs ns t)) (sheet_with os bs n i ns s) s) part;
-      keeps = c.carry-out.ensures.keeps;
+      answers = (simp to_z-of_z at c.carry_out.ensures.answers) ∙ ap₂ (λ (ns : List ℕ) (z : ℤ). with_steps (answers m (settle_postings os bs ns t)) z) part c.settle_numbers-steps.ensures.steps;
+      posts = c.carry_out.ensures.posts ∙ ap (λ (ns : List ℕ). left m (settle_postings os bs ns t)) part;
+      writes = c.carry_out.ensures.writes ∙ ap (λ (ns : List ℕ). if_taken (answers m (settle_postings os bs ns t)) (sheet_with os bs n i ns s) s) part;
+      keeps = c.carry_out.ensures.keeps;
     }

@@ -8,8 +8,8 @@ use Rattle.entries.proofs.Readiness.{ready_from}
 use Rattle.entries.proofs.Moving.{sum_moved, moved}
 use Rattle.entries.proofs.settling.settle_interval.Goals as goal
 
-pub settle-checked-requires : goal.settle-checked-requires
-settle-checked-requires g c = ready_from _ _ _ _ _ _ _ _ _ _ (sym c.in-Ok.ensures)
+pub settle_checked-requires : goal.settle_checked-requires
+settle_checked-requires g c = ready_from _ _ _ _ _ _ _ _ _ _ (sym c.in-Ok.ensures)
 
 pub returns-in-Err : goal.returns-in-Err
 returns-in-Err g c =
@@ -45,16 +45,16 @@ returns-in-Ok g c =
     let a = answers m ps in
     let z = settle_steps os fs bs gs i t in
     let w = settle_sheet os fs bs gs n i t s in
-    let chk = settle_checks os fs bs gs n i (length s) (length c.args.numbers.now) (length c.args.order-list.now) (length c.args.block-list.now) in
+    let chk = settle_checks os fs bs gs n i (length s) (length c.args.numbers.now) (length c.args.order_list.now) (length c.args.block_list.now) in
     let ok = c.in-Ok.ensures in
-    let ready = ready_from os fs bs gs n i (length s) (length c.args.numbers.now) (length c.args.order-list.now) (length c.args.block-list.now) (sym ok) in
-    let says = c.settle-checked.ensures.answers ∙ ap (λ (k : Result Unit Refusal). checked k (with_steps a z)) ok in
-    let posts = c.settle-checked.ensures.posts ∙ ap (λ (k : Result Unit Refusal). if_checked k (left m ps) m) ok in
-    let writes = c.settle-checked.ensures.writes ∙ ap (λ (k : Result Unit Refusal). if_checked k (if_taken a w s) s) ok in
+    let ready = ready_from os fs bs gs n i (length s) (length c.args.numbers.now) (length c.args.order_list.now) (length c.args.block_list.now) (sym ok) in
+    let says = c.settle_checked.ensures.answers ∙ ap (λ (k : Result Unit Refusal). checked k (with_steps a z)) ok in
+    let posts = c.settle_checked.ensures.posts ∙ ap (λ (k : Result Unit Refusal). if_checked k (left m ps) m) ok in
+    let writes = c.settle_checked.ensures.writes ∙ ap (λ (k : Result Unit Refusal). if_checked k (if_taken a w s) s) ok in
     record {
       answers = says;
       posts = posts;
       writes = writes;
-      keeps = c.settle-checked.ensures.keeps;
-      moves = moved chk a t z c.settle-checked.result m _ (posted_all m ps) s _ w says posts writes (λ _ e. sum_moved os fs bs gs i t ready.sized.order_fills ready.sized.block_fills m e);
+      keeps = c.settle_checked.ensures.keeps;
+      moves = moved chk a t z c.settle_checked.result m _ (posted_all m ps) s _ w says posts writes (λ _ e. sum_moved os fs bs gs i t ready.sized.order_fills ready.sized.block_fills m e);
     }

@@ -16,8 +16,8 @@ steps_fitting : (c : goal.In-Some) → SFits w32 c.in-Some.steps
 steps_fitting c =
     steps_fit c.in-Some.steps (rw (steps_are c) (steps_small c.args.book.orders.now c.args.fills.orders.now c.args.book.blocks.now c.args.fills.blocks.now _ _ _ c.args.interval c.args.terms c.requires))
 
-pub overflow-cast-result : goal.overflow-cast-result
-overflow-cast-result c =
+pub overflow_cast-result : goal.overflow_cast-result
+overflow_cast-result c =
     let s64 : SFits w64 c.in-Some.steps = search rules in
     simp to_z-of_z (steps_fitting c)
 
@@ -32,5 +32,5 @@ returns c =
     let s32 : SFits w32 c.in-Some.steps = steps_fitting c in
     record {
       steps = simp to_z-of_z (steps_are c);
-      numbers = (simp to_z-of_z at c.settled-numbers.ensures.numbers) ∙ cond-true _ _ _ (sizes _ _ _ _ _ _ _ c.requires);
+      numbers = (simp to_z-of_z at c.settled_numbers.ensures.numbers) ∙ cond-true _ _ _ (sizes _ _ _ _ _ _ _ c.requires);
     }

@@ -3,8 +3,8 @@ use Rattle.entries.specs.Sheet.{Fits, written, of_interval, place_of, sheet_with
 use Rattle.entries.proofs.Rows.{fits}
 use Rattle.entries.proofs.sheet.write_numbers.Goals as goal
 
-pub put-entry-requires : goal.put-entry-requires
-put-entry-requires c =
+pub put_entry-requires : goal.put_entry-requires
+put_entry-requires c =
     let k = c.loop-place.place in
     let n = c.args.layout.intervals in
     let i = c.args.layout.interval in
@@ -19,7 +19,7 @@ loop-place-preserved c =
     let place = place_of l.orders l.intervals l.interval in
     let passes = of_interval c.args.book.orders.now c.args.book.blocks.now l.interval in
     let v : ℕ → ℕ = λ j. get_or c.args.numbers.now j 0 in
-    c.put-entry.ensures ∙ ap (λ (s : List ℕ). cond (passes k) (set s (place k) (v k)) s) c.loop-place.invariant ∙ rw add-one refl
+    c.put_entry.ensures ∙ ap (λ (s : List ℕ). cond (passes k) (set s (place k) (v k)) s) c.loop-place.invariant ∙ rw add-one refl
 
 pub returns : goal.returns
 unfolding sheet_with

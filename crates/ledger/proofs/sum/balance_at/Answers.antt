@@ -3,8 +3,8 @@ use Rattle.std.proofs.lemmas.Int.{to_z-of_z}
 use Rattle.ledger.proofs.Places.{lawful-length, balance_is, balance_there, number_there}
 use Rattle.ledger.proofs.sum.balance_at.Goals as goal
 
-pub overflow-add-place : goal.overflow-add-place
-overflow-add-place g c =
+pub overflow_add-place : goal.overflow_add-place
+overflow_add-place g c =
     let few = lawful-length (g.L.Accounts.model c.args.ledger.now) (g.L.Accounts.lawful c.args.ledger.now) in
     omega arith
 

@@ -12,7 +12,7 @@ loop-place-preserved g c =
     let few = lawful-length m (g.L.Accounts.lawful c.args.ledger.now) in
     let s = sound_at 0 m i blank (g.L.Accounts.lawful c.args.ledger.now) lt in
     let inv = c.loop-place.invariant in
-    let is = c.balance-at.ensures in
+    let is = c.balance_at.ensures in
     (total_more m i blank _ _ (total m) lt inv.0 (omega (arith, ints)), omega (arith, ints), omega (arith, ints))
 
 pub returns : goal.returns

@@ -12,8 +12,8 @@ loop-open-preserved c =
     let e : lawful_from c.loop-open.least (get_or rs i blank) ≡ true = search rules in
     count_more rs c.loop-open.least i (open_records rs) blank c.loop-open.invariant.1 (omega arith) (omega arith) e
 
-pub returns-else-is-lawful : goal.returns-else-is-lawful
-returns-else-is-lawful c =
+pub returns-else-is_lawful : goal.returns-else-is_lawful
+returns-else-is_lawful c =
     let rs = c.args.records.now in
     let i = c.loop-open.«open» in
     let e : lawful_from c.loop-open.least (get_or rs i blank) ≡ false = search rules in

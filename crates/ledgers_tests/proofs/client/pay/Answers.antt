@@ -6,5 +6,5 @@ use Rattle.ledgers_tests.proofs.client.pay.Goals as goal
 pub returns : goal.returns
 returns c =
     let o = c.new-operator.result in
-    let p = c.pay-both.new.first in
+    let p = c.pay_both.new.first in
     record { answers = search rules; unmoved = table_stays _ (operators o.exchange o.balancing) (operators p.exchange p.balancing) _ _ (search rules) (search rules) }

@@ -4,8 +4,8 @@ use Rattle.verdict.specs.Rules.{span}
 use Rattle.verdict.proofs.Products.{product_bounds}
 use Rattle.verdict.proofs.rules.limits_of.Goals as goal
 
-pub overflow-mul-result : goal.overflow-mul-result
-overflow-mul-result c =
+pub overflow_mul-result : goal.overflow_mul-result
+overflow_mul-result c =
     let b = c.args.block.now in
     let l : ℤ = b.limit in
     let x : to_z w64 (of_z w64 (to_z w32 (of_z w32 l))) ≡ l = omega (arith, ints) in

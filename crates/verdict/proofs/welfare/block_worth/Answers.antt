@@ -5,8 +5,8 @@ use Rattle.verdict.specs.Balance.{worth}
 use Rattle.verdict.proofs.Products.{product_bounds}
 use Rattle.verdict.proofs.welfare.block_worth.Goals as goal
 
-pub overflow-mul-result : goal.overflow-mul-result
-overflow-mul-result c =
+pub overflow_mul-result : goal.overflow_mul-result
+overflow_mul-result c =
     let b = c.args.block.now in
     let l : ℤ = b.limit in
     let w : ℤ = c.worth.result in

@@ -3,8 +3,8 @@ use borrow.Author.Differences.{ints, abs_is}
 use Rattle.verdict.proofs.Products.{product_bounds}
 use Rattle.verdict.proofs.welfare.value.Goals as goal
 
-pub overflow-mul-result : goal.overflow-mul-result
-overflow-mul-result c =
+pub overflow_mul-result : goal.overflow_mul-result
+overflow_mul-result c =
     let l : ℤ = c.args.limit in
     let f = c.args.fill in
     let x : to_z w64 (of_z w64 (to_z w32 (of_z w32 l))) ≡ l = omega (arith, ints) in

@@ -11,21 +11,21 @@ use Rattle.engine.specs.Booking.{booked, balancing}
 use Rattle.engine.proofs.Bookings.{shown_small, not_shown, unposted, all_posted}
 use Rattle.engine.proofs.day.Day.book.Goals as goal
 
-pub returns-then-not-shows-out : goal.returns-then-not-shows-out
-returns-then-not-shows-out g c =
+pub returns-then-not-shows_out : goal.returns-then-not-shows_out
+returns-then-not-shows_out g c =
     let t = c.args.remainder in
     let i : to_z w32 (of_z w32 t.interval) ≡ t.interval = omega (arith, ints) in
     let z : to_z w32 (of_z w32 t.steps) ≡ t.steps = omega (arith, ints) in
-    let no : shows_out c.args.self.now t.interval t.steps ≡ false = ap (λ (x : ℤ). shows_out c.args.self.now x t.steps) (sym i) ∙ ap (shows_out c.args.self.now (to_z w32 (of_z w32 t.interval))) (sym z) ∙ sym c.shows-out.ensures ∙ c.if-not-shows-out.true in
+    let no : shows_out c.args.self.now t.interval t.steps ≡ false = ap (λ (x : ℤ). shows_out c.args.self.now x t.steps) (sym i) ∙ ap (shows_out c.args.self.now (to_z w32 (of_z w32 t.interval))) (sym z) ∙ sym c.shows_out.ensures ∙ c.if-not-shows_out.true in
     record {
       books = (not_shown (shows_out c.args.self.now t.interval t.steps) (answer (g.L.Accounts.model c.args.ledger.now) balancing (booked c.args.self.now t)) no, refl, refl, refl);
       keeps = g.L.Ledger.unmoved c.args.ledger.now;
     }
 
-pub put-mark-requires : goal.put-mark-requires
-put-mark-requires g c =
+pub put_mark-requires : goal.put_mark-requires
+put_mark-requires g c =
     let t = c.args.remainder in
-    shown_small c.args.self.now (to_z w32 (of_z w32 t.interval)) (to_z w32 (of_z w32 t.steps)) (sym c.shows-out.ensures ∙ c.if-not-shows-out.false)
+    shown_small c.args.self.now (to_z w32 (of_z w32 t.interval)) (to_z w32 (of_z w32 t.steps)) (sym c.shows_out.ensures ∙ c.if-not-shows_out.false)
 
 pub returns-in-Err : goal.returns-in-Err
 returns-in-Err g c =
@@ -38,8 +38,8 @@ returns-in-Err g c =
     let small = c.worth-worth.ensures.small in
     let w : SFits w64 x = search rules in
     let fits : to_z w64 (of_z w64 x) ≡ x = to_z-of_z w64 x w in
-    let yes : shows_out d t.interval t.steps ≡ true = ap (λ (y : ℤ). shows_out d y t.steps) (sym i) ∙ ap (shows_out d (to_z w32 (of_z w32 t.interval))) (sym z) ∙ sym c.shows-out.ensures ∙ c.if-not-shows-out.false in
-    let is : x ≡ worth (conditions_of d t.interval) t.steps = c.worth-worth.ensures.is ∙ ap (λ (y : ℤ). worth (conditions c.terms-at.result) y) z ∙ ap (λ (k : Conditions). worth k t.steps) (c.terms-at.ensures ∙ ap (conditions_of d) i) in
+    let yes : shows_out d t.interval t.steps ≡ true = ap (λ (y : ℤ). shows_out d y t.steps) (sym i) ∙ ap (shows_out d (to_z w32 (of_z w32 t.interval))) (sym z) ∙ sym c.shows_out.ensures ∙ c.if-not-shows_out.false in
+    let is : x ≡ worth (conditions_of d t.interval) t.steps = c.worth-worth.ensures.is ∙ ap (λ (y : ℤ). worth (conditions c.terms_at.result) y) z ∙ ap (λ (k : Conditions). worth k t.steps) (c.terms_at.ensures ∙ ap (conditions_of d) i) in
     let y : ℤ = c.opposite.result in
     let minus : y ≡ neg_ℤ x = c.opposite.ensures ∙ ap neg_ℤ fits in
     let v : SFits w64 y = search rules in
@@ -66,14 +66,14 @@ returns-in-Ok g c =
     let small = c.worth-worth.ensures.small in
     let w : SFits w64 x = search rules in
     let fits : to_z w64 (of_z w64 x) ≡ x = to_z-of_z w64 x w in
-    let yes : shows_out d t.interval t.steps ≡ true = ap (λ (y : ℤ). shows_out d y t.steps) (sym i) ∙ ap (shows_out d (to_z w32 (of_z w32 t.interval))) (sym z) ∙ sym c.shows-out.ensures ∙ c.if-not-shows-out.false in
-    let is : x ≡ worth (conditions_of d t.interval) t.steps = c.worth-worth.ensures.is ∙ ap (λ (y : ℤ). worth (conditions c.terms-at.result) y) z ∙ ap (λ (k : Conditions). worth k t.steps) (c.terms-at.ensures ∙ ap (conditions_of d) i) in
+    let yes : shows_out d t.interval t.steps ≡ true = ap (λ (y : ℤ). shows_out d y t.steps) (sym i) ∙ ap (shows_out d (to_z w32 (of_z w32 t.interval))) (sym z) ∙ sym c.shows_out.ensures ∙ c.if-not-shows_out.false in
+    let is : x ≡ worth (conditions_of d t.interval) t.steps = c.worth-worth.ensures.is ∙ ap (λ (y : ℤ). worth (conditions c.terms_at.result) y) z ∙ ap (λ (k : Conditions). worth k t.steps) (c.terms_at.ensures ∙ ap (conditions_of d) i) in
     let y : ℤ = c.opposite.result in
     let minus : y ≡ neg_ℤ x = c.opposite.ensures ∙ ap neg_ℤ fits in
     let v : SFits w64 y = search rules in
     let amount : to_z w64 (of_z w64 y) ≡ booked d t = to_z-of_z w64 y v ∙ minus ∙ ap neg_ℤ is in
     let taken : answer m balancing (booked d t) ≡ Ok tt = ap (answer m balancing) (sym amount) ∙ sym c.in-Ok.ensures.answers in
-    let put = c.put-mark.ensures in
+    let put = c.put_mark.ensures in
     let posts = c.post.ensures.posts ∙ ap (after m balancing) amount in
     record {
       books = (

@@ -4,8 +4,8 @@ use Rattle.market.specs.Blank.{fresh}
 use Rattle.engine.proofs.Terming.{terms_bounded, quarters-lawful}
 use Rattle.engine.proofs.day.Day.terms_at.Goals as goal
 
-pub invariant-of-result : goal.invariant-of-result
-invariant-of-result c =
+pub invariant_of-result : goal.invariant_of-result
+invariant_of-result c =
     let day = c.args.self.now in
     let x = get_or day.intervals c.args.place fresh in
     let t = terms_bounded x (day.sound.4 c.args.place c.requires) in

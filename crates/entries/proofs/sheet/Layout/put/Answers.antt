@@ -15,4 +15,4 @@ returns-else-place-self c =
     let fits : a + (a + n - a) ≤ length c.args.sheet.now = omega arith in
     let lt : l.interval - 1 < a + n - a = omega (arith, c.requires.from, c.requires.to) in
     let moved = row-set c.args.sheet.now a (a + n - a) (l.interval - 1) c.args.number fits lt in
-    rw e (simp c.put-in-row.ensures moved)
+    rw e (simp c.put_in_row.ensures moved)

@@ -4,8 +4,8 @@ use Rattle.entries.specs.Amounts.{conditions, worth}
 use Rattle.entries.proofs.Products.{abs_fits, at_most_four, priced_small, worth_small}
 use Rattle.entries.proofs.terms.Terms.amount.Goals as goal
 
-pub overflow-mul-result : goal.overflow-mul-result
-overflow-mul-result c =
+pub overflow_mul-result : goal.overflow_mul-result
+overflow_mul-result c =
     let p = c.args.self.price in
     let s = c.args.steps in
     let p32 : SFits w32 p = search rules in
@@ -15,8 +15,8 @@ overflow-mul-result c =
     let r : SFits w64 (p *ℤ s) = abs_fits (p *ℤ s) (omega arith) in
     simp to_z-of_z r
 
-pub overflow-mul-result-2 : goal.overflow-mul-result-2
-overflow-mul-result-2 c =
+pub overflow_mul-result-2 : goal.overflow_mul-result-2
+overflow_mul-result-2 c =
     let p = c.args.self.price in
     let s = c.args.steps in
     let p32 : SFits w32 p = search rules in

@@ -10,8 +10,8 @@ returns-then-place-low g c =
     let j = c.args.self.now in
     let m = g.A.Accounts.model j.first in
     let k = g.B.Accounts.model j.second in
-    let le : c.args.place ≤ length (below j.border m) = omega (arith, c.count-below-low.ensures) in
-    c.account-at.ensures ∙ sym (place-low j.border m k c.args.place le)
+    let le : c.args.place ≤ length (below j.border m) = omega (arith, c.count_below-low.ensures) in
+    c.account_at.ensures ∙ sym (place-low j.border m k c.args.place le)
 
 pub returns-in-Some : goal.returns-in-Some
 returns-in-Some g c =
@@ -20,9 +20,9 @@ returns-in-Some g c =
     let m = g.A.Accounts.model j.first in
     let k = g.B.Accounts.model j.second in
     let p = c.args.place in
-    let lt : length (below b m) < p = omega (arith, c.count-below-low.ensures) in
-    let e : c.in-Some.later ≡ p - length (below b m) + length (below b k) = omega (arith, c.count-below-low.ensures, c.count-below-skipped.ensures, c.in-Some.ensures.1) in
-    c.account-at-in-Some.ensures ∙ ap (number_at k) e ∙ sym (place-high b m k p lt)
+    let lt : length (below b m) < p = omega (arith, c.count_below-low.ensures) in
+    let e : c.in-Some.later ≡ p - length (below b m) + length (below b k) = omega (arith, c.count_below-low.ensures, c.count_below-skipped.ensures, c.in-Some.ensures.1) in
+    c.account_at-in-Some.ensures ∙ ap (number_at k) e ∙ sym (place-high b m k p lt)
 
 pub returns-in-None : goal.returns-in-None
 returns-in-None g c =
@@ -31,7 +31,7 @@ returns-in-None g c =
     let m = g.A.Accounts.model j.first in
     let k = g.B.Accounts.model j.second in
     let p = c.args.place in
-    let lt : length (below b m) < p = omega (arith, c.count-below-low.ensures) in
-    let far : 18446744073709551616 ≤ p - length (below b m) + length (below b k) = omega (arith, c.count-below-low.ensures, c.count-below-skipped.ensures, c.in-None.ensures) in
+    let lt : length (below b m) < p = omega (arith, c.count_below-low.ensures) in
+    let far : 18446744073709551616 ≤ p - length (below b m) + length (below b k) = omega (arith, c.count_below-low.ensures, c.count_below-skipped.ensures, c.in-None.ensures) in
     let few = lawful-length k (g.B.Accounts.lawful j.second) in
     sym (place-high b m k p lt ∙ number_past k (p - length (below b m) + length (below b k)) (omega arith))

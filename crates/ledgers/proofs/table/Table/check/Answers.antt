@@ -4,6 +4,6 @@ use Rattle.ledgers.proofs.table.Table.check.Goals as goal
 pub returns : goal.returns
 returns c =
     record {
-      exact = c.check-run.ensures;
-      says = (checks c.args.self.now.records.now c.check-run.result).1 c.check-run.ensures;
+      exact = c.check_run.ensures;
+      says = (checks c.args.self.now.records.now c.check_run.result).1 c.check_run.ensures;
     }
