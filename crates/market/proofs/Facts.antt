@@ -1,5 +1,5 @@
 -- What the tests of the bounds of entry tell.
-use Rattle.std.proofs.Common.{◌≡◌, ℕ, ◌≤◌, Bool, true, false, cond, ◌&&◌, List, [], ◌∷◌, ℤ, pos, ◌+ℤ◌, ◌-ℤ◌, neg_ℤ, nat_abs, ◌≤ℤ◌, Ok, Err, Result, sym, refl, ap, inl, inr, ⊎_elim, arith}
+use Rattle.std.proofs.Common.{◌≡◌, ℕ, ◌≤◌, Bool, true, false, ◌&&◌, List, [], ◌∷◌, ℤ, pos, neg_ℤ, nat_abs, ◌≤ℤ◌, Ok, sym, refl, ⊎_elim, arith}
 use lib.Signed.{le_z}
 use borrow.Author.Differences.{ints, abs_is}
 use Rattle.std.specs.List.{AllByRecursion as All}
