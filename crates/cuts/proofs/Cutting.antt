@@ -1,5 +1,5 @@
 -- What the stages of a kind leave, from what the code has at hand.
-use Rattle.std.proofs.Common.{◌≡◌, ℕ, ◌+◌, true, ◌&&◌, eqb, leb, List, ◌++◌, length, take, drop, ℤ, nat_abs, refl, ap, ◌∙◌, ap₂}
+use Rattle.std.proofs.Common.{◌≡◌, ℕ, ◌+◌, true, ◌&&◌, eqb, leb, List, ◌++◌, length, take, drop, ℤ, nat_abs, refl, ◌∙◌, ap₂}
 use Rattle.market.specs.declared.records.Order.{Order}
 use Rattle.market.specs.declared.records.Block.{Block}
 use Rattle.cuts.specs.Kinds.{orders, blocks}

@@ -1,13 +1,12 @@
 -- The turns of a stage take steps from its candidates, and do nothing else.
-use Rattle.std.proofs.Common.{◌≡◌, ℕ, zero, suc, ◌+◌, ◌-◌, ◌<◌, ◌≤◌, Bool, true, false, cond, leb, ◌≢◌, ◌⊎◌, List, [], ◌∷◌, length, get_or, set, sum, sym, refl, ap, ◌∙◌, ⊎_elim, arith}
-use Rattle.std.specs.List.{AllByRecursion as All}
-use Rattle.std.proofs.lemmas.List.{get_or-map, get_or_past, length-map, get_or-set_same, get_or-set_other}
+use Rattle.std.proofs.Common.{◌≡◌, ℕ, zero, suc, ◌+◌, ◌-◌, ◌<◌, ◌≤◌, leb, ◌≢◌, List, length, get_or, sum, sym, refl, ◌∙◌, ⊎_elim, arith}
+use Rattle.std.proofs.lemmas.List.{get_or-map, get_or_past, get_or-set_same, get_or-set_other}
 use Rattle.std.proofs.ByRecursion.{All-get_or}
 use Rattle.std.proofs.lemmas.List.Sums.{sum_by-set}
 use Rattle.std.proofs.lemmas.Bool.{cases_lt, cases_eq, leb-false, cond_both}
 use Rattle.cuts.specs.Stages.{held, last_step, next_turn, one_less, Cut, turns}
 use Rattle.cuts.specs.StageLaws.{OnlyCuts}
-use Rattle.cuts.proofs.Turns.{held_past, length-held}
+use Rattle.cuts.proofs.Turns.{held_past}
 
 -- whoever has a step to lose stands at a place of the numbers
 module _ (ps ns : List ℕ) (t : ℕ) (more : 1 < get_or (held ps ns) t 0) where

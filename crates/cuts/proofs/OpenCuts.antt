@@ -1,10 +1,9 @@
 -- The law of the open cuts: from the numbers of all entries to what the candidates hold.
-use Rattle.std.proofs.Common.{◌≡◌, ℕ, zero, suc, ◌+◌, ◌-◌, ◌<◌, ◌≤◌, min, Bool, true, false, cond, leb, ◌≢◌, ◌⊎◌, List, [], ◌∷◌, map, length, get_or, set, sym, refl, ap, ◌∙◌, ap₂, ⊎_elim, arith}
-use Rattle.std.specs.List.{AllByRecursion as All}
+use Rattle.std.proofs.Common.{◌≡◌, ℕ, zero, suc, ◌-◌, ◌<◌, ◌≤◌, leb, ◌≢◌, List, [], ◌∷◌, length, get_or, set, sym, refl, ap, ◌∙◌, ap₂, ⊎_elim, arith}
 use Rattle.std.proofs.lemmas.List.{get_or-map, length-set, get_or-set_same, get_or-set_other, same_lists, get_or_default}
 use Rattle.std.proofs.ByRecursion.{All-get_or}
-use Rattle.std.proofs.lemmas.Bool.{cases_eq, cases_Bool, cond-true, cond-false, leb-false}
-use Rattle.cuts.specs.Stages.{held, last_step, next_turn, one_less, Cut, turns, stage_cut, open_cuts}
+use Rattle.std.proofs.lemmas.Bool.{cases_eq, cases_Bool, leb-false}
+use Rattle.cuts.specs.Stages.{held, last_step, next_turn, one_less, turns, stage_cut, open_cuts}
 use Rattle.cuts.specs.StageLaws.{Apart, Candidates, OpenCutsLaw}
 use Rattle.cuts.proofs.Turns.{length-held}
 use Rattle.cuts.proofs.OnlyCuts.{turn_in, holds, place_in}

@@ -1,7 +1,7 @@
 -- A slice of numbers that holds those of the orders, then those of the blocks.
-use Rattle.std.proofs.Common.{◌≡◌, ℕ, ◌+◌, ◌-◌, ◌≤◌, List, [], ◌∷◌, ◌++◌, length, take, drop, sym, refl, ap, ◌∙◌, ap₂, arith}
+use Rattle.std.proofs.Common.{◌≡◌, ℕ, ◌+◌, ◌-◌, List, ◌++◌, length, take, drop, sym, ap, ◌∙◌, ap₂, arith}
 use borrow.Rule.Slice.PartMut.{put_mid, post_of}
-use Rattle.std.proofs.lemmas.List.{take_at, drop_at, drop-drop, take-append-drop, length-take, length-drop, length-append}
+use Rattle.std.proofs.lemmas.List.{take_at, drop_at, drop-drop}
 
 -- both parts written, one after the other
 pub both_written : (a b : ℕ) (xs ys zs : List ℕ) → length ys ≡ a → length zs ≡ b → put_mid a (a + b - a) (ys ++ post_of 0 (a - 0) xs) zs ≡ ys ++ (zs ++ drop (a + b) xs)

@@ -1,5 +1,5 @@
 -- The laws of the settled numbers, from those of the stages.
-use Rattle.std.proofs.Common.{◌≡◌, ℕ, ◌+◌, ◌-◌, ◌*◌, ◌≤◌, List, length, ℤ, pos, negsuc, ◌+ℤ◌, ◌-ℤ◌, nat_abs, sum, sym, refl, ap, ◌∙◌, add-mul, arith}
+use Rattle.std.proofs.Common.{◌≡◌, ℕ, ◌+◌, ◌-◌, ◌*◌, ◌≤◌, List, length, ℤ, pos, negsuc, ◌+ℤ◌, ◌-ℤ◌, nat_abs, sym, refl, ap, ◌∙◌, add-mul, arith}
 use borrow.Author.Differences.{ints}
 use Rattle.market.specs.declared.records.Side.{Side}
 use Rattle.market.specs.declared.records.Side.TheVariants.{Sell, Buy}
@@ -9,8 +9,8 @@ use Rattle.cuts.specs.declared.gather.Filled.{Filled}
 use Rattle.cuts.specs.Kinds.{orders, blocks, order_stands, block_stands}
 use Rattle.cuts.specs.Ranks.{order_before, block_before}
 use Rattle.cuts.specs.Numbers.{rounded_numbers, signed, net}
-use Rattle.cuts.specs.Settled.{order_places, block_places, stage_of, gap_of, orders_cut, blocks_cut, settled_orders, settled_blocks, remainder_of, balance}
-use Rattle.cuts.specs.SettledLaws.{cut_side, kind_open, open_cuts_of, Settles}
+use Rattle.cuts.specs.Settled.{order_places, block_places, stage_of, gap_of, orders_cut, blocks_cut, settled_orders, settled_blocks, remainder_of}
+use Rattle.cuts.specs.SettledLaws.{cut_side, open_cuts_of, Settles}
 use Rattle.cuts.proofs.Standing.{places_eligible, places_apart}
 use Rattle.cuts.proofs.Walks.{signed-size, rounded_most, net_most}
 use Rattle.cuts.proofs.TwoStages.{StagesRight, stages_right}

@@ -1,8 +1,7 @@
 -- The candidates of a stage: each is an eligible entry, and no two are at one place.
-use Rattle.std.proofs.Common.{◌≡◌, ℕ, zero, suc, ◌+◌, ◌-◌, ◌<◌, ◌≤◌, Bool, true, false, cond, ◌≢◌, ◌⊎◌, List, [], ◌∷◌, map, length, get_or, fold, sym, refl, ap, ◌∙◌, subst, ⊎_elim, arith}
+use Rattle.std.proofs.Common.{◌≡◌, ℕ, suc, ◌+◌, ◌<◌, Bool, true, ◌≢◌, List, [], ◌∷◌, map, length, get_or, fold, sym, refl, ◌∙◌, subst, arith}
 use Rattle.std.specs.List.{AllByRecursion as All}
-use Rattle.std.proofs.ByRecursion.{All-weaker, All-map}
-use Rattle.std.proofs.lemmas.Bool.{cases_Bool}
+use Rattle.std.proofs.ByRecursion.{All-map}
 use Rattle.cuts.specs.declared.gather.Stage.{Stage}
 use Rattle.cuts.specs.Kinds.{Kind}
 use Rattle.cuts.specs.Rounding.{nearest}

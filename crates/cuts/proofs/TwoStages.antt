@@ -1,25 +1,24 @@
 -- The two stages of a kind of entry, and what they take from sells less buys.
-use Rattle.std.proofs.Common.{◌≡◌, ℕ, zero, suc, ◌+◌, ◌-◌, ◌<◌, ◌≤◌, Bool, true, false, cond, not, ◌&&◌, ltb, leb, ◌≢◌, ◌⊎◌, List, [], ◌∷◌, map, length, get_or, set, ℤ, pos, negsuc, ◌+ℤ◌, neg_ℤ, sum, sym, refl, ap, ◌∙◌, ap₂, ⊎_elim, arith}
+use Rattle.std.proofs.Common.{◌≡◌, ℕ, zero, suc, ◌+◌, ◌-◌, ◌<◌, ◌≤◌, true, false, ltb, leb, ◌≢◌, List, [], ◌∷◌, length, get_or, ℤ, pos, negsuc, ◌+ℤ◌, sum, sym, refl, ap, ◌∙◌, ap₂, arith}
 use borrow.Author.Differences.{ints}
 use Rattle.market.specs.declared.records.Side.{Side}
 use Rattle.market.specs.declared.records.Side.TheVariants.{Sell, Buy}
 use Rattle.std.specs.List.{AllByRecursion as All}
-use Rattle.std.proofs.ByRecursion.{All-weaker, All-get_or, All-from_get_or}
+use Rattle.std.proofs.ByRecursion.{All-weaker, All-get_or}
 use Rattle.std.proofs.lemmas.List.{same_lists, get_or_default}
-use Rattle.std.proofs.lemmas.Bool.{and_parts, ltb-true, leb-false, cond_both, cond-true, both_ways, not-true, cases_lt}
-use Rattle.std.proofs.lemmas.Bool.Decides.{nat_tests}
+use Rattle.std.proofs.lemmas.Bool.{and_parts, ltb-true, leb-false, cond_both, cond-true, both_ways, not-true}
 use Rattle.cuts.specs.declared.gather.Filled.{Filled}
 use Rattle.cuts.specs.declared.gather.Filled.TheVariants.{Partly, Full}
 use Rattle.cuts.specs.Kinds.{Kind}
 use Rattle.cuts.specs.Rounding.{nearest}
-use Rattle.cuts.specs.Eligible.{cuts_side, partly, filled_so, cut_here, holds_some, eligible}
+use Rattle.cuts.specs.Eligible.{cuts_side, partly, filled_so, cut_here, holds_some}
 use Rattle.cuts.specs.Numbers.{number, rounded_numbers, signed, net}
 use Rattle.cuts.specs.Stages.{held, last_step, next_turn, one_less, Cut, turns, stage_cut, open_cuts}
 use Rattle.cuts.specs.StageLaws.{OnlyCuts, Apart, Candidates}
 use Rattle.cuts.specs.Settled.{stage_of, two_stages}
 use Rattle.cuts.specs.SettledLaws.{cut_side, kind_open, CutRightly}
 use Rattle.cuts.proofs.Turns.{length-held}
-use Rattle.cuts.proofs.OnlyCuts.{turn_in, holds, place_in, only_cuts}
+use Rattle.cuts.proofs.OnlyCuts.{turn_in, holds, only_cuts}
 use Rattle.cuts.proofs.OpenCuts.{stage_left, held_get}
 use Rattle.cuts.proofs.Standing.{EligibleAt}
 

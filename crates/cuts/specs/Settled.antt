@@ -10,7 +10,7 @@ use Rattle.cuts.specs.Ranks.{order_before, block_before}
 use Rattle.cuts.specs.Ordered.{ranked}
 use Rattle.cuts.specs.Eligible.{candidates}
 use Rattle.cuts.specs.Numbers.{rounded_numbers, net}
-use Rattle.cuts.specs.Stages.{Rule, Cut, last_step, stage_cut, held, open_cuts}
+use Rattle.cuts.specs.Stages.{Rule, Cut, last_step, stage_cut}
 
 -- the places of a stage's candidates, in rank order
 abbrev pub ranked_places : {X C : Type 0} → Kind X → (X → ℕ → ℕ → C) → (C → C → Bool) → (C → ℕ) → List X → List ℕ → Stage → List ℕ

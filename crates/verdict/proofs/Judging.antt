@@ -1,5 +1,5 @@
 -- What an accepted phase gives to the next ones.
-use Rattle.std.proofs.Common.{◌≡◌, ℕ, ◌≤◌, Bool, true, ◌&&◌, eqb, leb, List, [], ◌∷◌, length, Ok, Err, Result, refl, ◌∙◌, arith}
+use Rattle.std.proofs.Common.{◌≡◌, ℕ, ◌≤◌, true, ◌&&◌, eqb, leb, List, [], ◌∷◌, length, Ok, Err, Result, refl, ◌∙◌, arith}
 use Rattle.std.proofs.lemmas.Bool.{and_parts, and_from, leb-true, le-leb, eqb-true, eq-eqb}
 use Rattle.market.specs.declared.records.Order.{Order}
 use Rattle.market.specs.declared.records.Block.{Block}
@@ -11,7 +11,6 @@ use Rattle.verdict.specs.Rules.{within, quantity_rule}
 use Rattle.verdict.specs.Worths.{Mild, Spans}
 use Rattle.verdict.specs.Verdict.{lengths_ok, paper_lengths, lengths, Sized, bounds, quantities, next}
 use Rattle.verdict.specs.Passes.{Fits}
-use Rattle.market.specs.First.{then}
 use Rattle.verdict.specs.Walks.{first_in, first_filled}
 use Rattle.verdict.proofs.Firsts.{then_ok, in_filled, each_out}
 use Rattle.verdict.proofs.Eachs.{each_map, each_both}

@@ -1,5 +1,5 @@
 -- Each test of the verdict passes exactly where its rule is kept.
-use Rattle.std.proofs.Common.{◌≡◌, ℕ, zero, suc, ◌<◌, Bool, true, false, cond, not, ◌&&◌, ◌||◌, eqb, ◌⊎◌, List, [], ◌∷◌, length, ℤ, pos, ◌*ℤ◌, neg_ℤ, ◌≤ℤ◌, ◌<ℤ◌, Ok, Err, Result, sym, refl, ap, ◌∙◌, inl, inr, ⊎_elim, arith}
+use Rattle.std.proofs.Common.{◌≡◌, ℕ, zero, suc, ◌<◌, Bool, true, false, not, ◌&&◌, ◌||◌, eqb, ◌⊎◌, List, [], ◌∷◌, ℤ, pos, ◌*ℤ◌, ◌≤ℤ◌, ◌<ℤ◌, Ok, Err, sym, refl, ◌∙◌, inl, inr, ⊎_elim, arith}
 use lib.Signed.{le_z, lt_z}
 use borrow.Author.Differences.{ints}
 use Rattle.std.proofs.lemmas.Bool.{and_parts, and_from, or_cases, or_right, false≢true, eqb-true, eq-eqb}
@@ -12,7 +12,7 @@ use Rattle.market.specs.declared.refusal.Refusal.{Refusal}
 use Rattle.market.specs.First.{tests}
 use Rattle.market.specs.Bounds as B
 use Rattle.verdict.specs.Rules as R
-use Rattle.verdict.specs.Passes.{FromTo, Terms, LawfulOrder, LawfulBlock, EmptyIfWorse, FullIfBetter, OrderMeetsPrice, BlockMeetsLeast, Pays, BlockMeetsPrice, BlockMeets}
+use Rattle.verdict.specs.Passes.{FromTo, LawfulOrder, LawfulBlock, EmptyIfWorse, FullIfBetter, OrderMeetsPrice, BlockMeetsLeast, Pays, BlockMeetsPrice, BlockMeets}
 use Rattle.market.proofs.Facts.{tests_out, tests_back, between_two, order_tests, block_tests}
 
 -- ---- signed tests

@@ -1,8 +1,7 @@
 -- The verdict accepts a paper exactly where everything is in order and every rule holds; else it names the first that is broken.
-use Rattle.std.proofs.Common.{◌≡◌, ℕ, zero, suc, ◌+◌, ◌<◌, Bool, true, false, not, ◌&&◌, ◌||◌, eqb, leb, ◌⊎◌, List, [], ◌∷◌, length, get_or, replicate, ℤ, pos, Ok, Err, Result, sym, refl, ap, ◌∙◌, subst, inl, inr, ⊎_elim, arith}
+use Rattle.std.proofs.Common.{◌≡◌, ℕ, zero, suc, ◌+◌, ◌<◌, true, not, ◌&&◌, ◌||◌, eqb, leb, ◌⊎◌, List, [], ◌∷◌, length, get_or, replicate, ℤ, pos, Ok, Err, Result, sym, refl, ap, ◌∙◌, subst, inl, inr, ⊎_elim, arith}
 use Rattle.std.specs.List.{AllByRecursion as All}
 use Rattle.std.proofs.lemmas.List.{length-replicate}
-use Rattle.std.proofs.ByRecursion.{All-get_or}
 use Rattle.market.specs.declared.records.Order.{Order}
 use Rattle.market.specs.declared.records.Block.{Block}
 use Rattle.market.specs.declared.records.Interval.{Interval}
@@ -16,8 +15,8 @@ use Rattle.market.specs.Bounds.{same, order_bounds, block_bounds, outside}
 use Rattle.verdict.specs.Rules.{price_at, misses, beats, full, within, thousandths, enough, quantity_rule, order_price, block_price}
 use Rattle.verdict.specs.Balance.{net_of, interval_balance, welfare}
 use Rattle.verdict.specs.Verdict.{lengths_ok, lengths, next, bounds, quantities, prices, balances, verdict_of}
-use Rattle.verdict.specs.Passes.{LawfulOrder, LawfulBlock, LawfulBook, Fits, WithinQuantity, OrderMeetsPrice, BlockMeetsLeast, BlockMeets, WithinBook, BalancedAt, Balanced, Passes}
-use Rattle.verdict.specs.Broken.{First, FirstNot, OrderAt, BlockAt, Broken, order_outside, block_outside, order_over, block_over, order_not_empty, order_not_full, block_below_least, block_not_paid, unbalanced, FirstBroken, InOrder, Judged}
+use Rattle.verdict.specs.Passes.{LawfulOrder, LawfulBlock, LawfulBook, Fits, WithinQuantity, OrderMeetsPrice, BlockMeets, WithinBook, BalancedAt, Balanced, Passes}
+use Rattle.verdict.specs.Broken.{OrderAt, BlockAt, Broken, order_outside, block_outside, order_over, block_over, order_not_empty, order_not_full, block_below_least, block_not_paid, unbalanced, FirstBroken, InOrder, Judged}
 use Rattle.verdict.proofs.Eachs.{each_all, all_each}
 use Rattle.market.proofs.Facts.{tests_out, tests_back, same_yes, same_true}
 use Rattle.verdict.proofs.Firsts.{then_ok, then_both, in_filled, each_out, each_back}

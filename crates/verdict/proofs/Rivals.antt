@@ -1,5 +1,5 @@
 -- A paper that passes has the most welfare of all that fill the blocks alike.
-use Rattle.std.proofs.Common.{◌≡◌, ℕ, ◌+◌, ◌-◌, ◌*◌, ◌≤◌, List, [], ◌∷◌, length, get_or, ℤ, pos, ◌+ℤ◌, nat_abs, ◌≤ℤ◌, ◌<ℤ◌, Ok, Err, Result, sym, refl, ap, ◌∙◌, subst, arith}
+use Rattle.std.proofs.Common.{◌≡◌, ℕ, ◌+◌, ◌-◌, ◌*◌, ◌≤◌, List, [], ◌∷◌, length, get_or, ℤ, pos, nat_abs, ◌≤ℤ◌, Ok, Err, Result, sym, ◌∙◌, subst, arith}
 use borrow.Author.Differences.{ints, abs_is}
 use Rattle.std.specs.List.{AllByRecursion as All}
 use Rattle.market.specs.declared.records.Side.{Side}
@@ -10,12 +10,11 @@ use Rattle.market.specs.declared.records.Interval.{Interval}
 use Rattle.market.specs.declared.refusal.Refusal.{Refusal}
 use Rattle.market.specs.Blank.{fresh}
 use Rattle.verdict.specs.Each.{Each}
-use Rattle.verdict.specs.Rules.{thousandths, price_at}
 use Rattle.verdict.specs.Sums.{sum_filled}
-use Rattle.verdict.specs.Balance.{order_sale, block_sale, net_of, welfare}
+use Rattle.verdict.specs.Balance.{order_sale, net_of}
 use Rattle.verdict.specs.Passes.{LawfulOrder, LawfulBook, WithinQuantity, EmptyIfWorse, FullIfBetter, OrderMeetsPrice, Balanced, Passes}
-use Rattle.verdict.specs.Broken.{InOrder, Judged}
-use Rattle.verdict.specs.Best.{Rival, Best, BestIfPassed}
+use Rattle.verdict.specs.Broken.{Judged}
+use Rattle.verdict.specs.Best.{Best, BestIfPassed}
 use Rattle.verdict.proofs.Optimal.{Rules, Within, none, more, Meets, InDay, welfare_most, welfare_same, welfare_tie}
 
 -- the rule of the price, with the quantity as a natural number

@@ -1,6 +1,5 @@
 -- The balance of an interval, and the welfare of a paper.
-use Rattle.std.specs.Prelude.{ℕ, Bool, cond, ◌&&◌, List, [], ◌∷◌, ℤ, pos, ◌+ℤ◌, ◌*ℤ◌, neg_ℤ, Result}
-use Rattle.std.specs.Int.Signed.{le_z}
+use Rattle.std.specs.Prelude.{ℕ, cond, List, [], ◌∷◌, ℤ, pos, ◌+ℤ◌, ◌*ℤ◌, neg_ℤ, Result}
 use Rattle.market.specs.declared.records.Side.{Side}
 use Rattle.market.specs.declared.records.Side.TheVariants.{Sell, Buy}
 use Rattle.market.specs.declared.records.Order.{Order}

@@ -1,4 +1,4 @@
-use Rattle.std.proofs.Common.{◌≡◌, ℕ, get_or, ap, ◌∙◌, arith}
+use Rattle.std.proofs.Common.{◌≡◌, get_or, ap, ◌∙◌, arith}
 use borrow.Author.Differences.{ints}
 use Rattle.cuts.specs.Numbers.{signed}
 use Rattle.cuts.proofs.Walks.{net_more, net_all}

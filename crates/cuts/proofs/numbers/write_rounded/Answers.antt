@@ -1,4 +1,4 @@
-use Rattle.std.proofs.Common.{◌≡◌, ℕ, ◌+◌, ◌++◌, take, drop, set, sym, ap, ◌∙◌, arith}
+use Rattle.std.proofs.Common.{◌+◌, ◌++◌, take, drop, set, sym, ap, ◌∙◌, arith}
 use Rattle.cuts.specs.Numbers.{rounded_numbers}
 use Rattle.cuts.proofs.Walks.{rounded_more, rounded_all}
 use Rattle.cuts.proofs.numbers.write_rounded.Goals as goal

@@ -1,4 +1,4 @@
-use Rattle.std.proofs.Common.{◌≡◌, ◌-◌, min, get_or, sym, ap, ◌∙◌, arith}
+use Rattle.std.proofs.Common.{◌-◌, min, get_or, sym, ap, ◌∙◌, arith}
 use Rattle.cuts.proofs.Smallest.{smallest_last, smallest_more, smallest_none}
 use Rattle.cuts.proofs.open_cuts.smallest.Goals as goal
 

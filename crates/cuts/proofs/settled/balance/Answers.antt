@@ -1,4 +1,4 @@
-use Rattle.std.proofs.Common.{◌≡◌, ℕ, ◌+◌, ◌-◌, length, take, drop, ap, ◌∙◌, arith}
+use Rattle.std.proofs.Common.{◌≡◌, ◌+◌, ◌-◌, length, take, drop, ap, ◌∙◌, arith}
 use borrow.Author.Differences.{ints}
 use Rattle.cuts.specs.Kinds.{orders, blocks}
 use Rattle.cuts.specs.Numbers.{net}

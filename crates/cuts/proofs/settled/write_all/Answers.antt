@@ -1,4 +1,4 @@
-use Rattle.std.proofs.Common.{◌≡◌, ℕ, ◌+◌, ◌++◌, length, drop, ap, ◌∙◌, ap₂}
+use Rattle.std.proofs.Common.{◌+◌, ◌++◌, length, drop, ap, ◌∙◌, ap₂}
 use Rattle.cuts.specs.Kinds.{orders, blocks}
 use Rattle.cuts.proofs.Walks.{length-rounded}
 use Rattle.cuts.proofs.Parts.{both_written}

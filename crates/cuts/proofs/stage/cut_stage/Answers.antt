@@ -1,5 +1,4 @@
-use Rattle.std.proofs.Common.{◌≡◌, map, sym}
-use Rattle.cuts.specs.StageLaws.{OnlyCuts, OpenCutsLaw}
+use Rattle.std.proofs.Common.{map}
 use Rattle.cuts.proofs.OnlyCuts.{only_cuts}
 use Rattle.cuts.proofs.OpenCuts.{open_cuts-law}
 use Rattle.cuts.proofs.stage.cut_stage.Goals as goal

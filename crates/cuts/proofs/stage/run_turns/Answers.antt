@@ -1,7 +1,7 @@
-use Rattle.std.proofs.Common.{◌≡◌, ℕ, map, length, sym, ap, ◌∙◌, arith}
+use Rattle.std.proofs.Common.{◌≡◌, map, length, sym, ap, ◌∙◌, arith}
 use Rattle.std.proofs.lemmas.List.{length-map}
-use Rattle.cuts.specs.Stages.{last_step, next_turn, Cut}
-use Rattle.cuts.proofs.Turns.{cut_more, cut_over, cut_met, turn_within}
+use Rattle.cuts.specs.Stages.{next_turn, Cut}
+use Rattle.cuts.proofs.Turns.{cut_more, cut_over, turn_within}
 use Rattle.cuts.proofs.stage.run_turns.Goals as goal
 
 pub next_turn-turn-requires : goal.next_turn-turn-requires

@@ -1,4 +1,4 @@
-use Rattle.std.proofs.Common.{◌≡◌, ℕ, ◌<◌, ℤ, neg_ℤ, ◌≤ℤ◌, pos, ◌*ℤ◌, nat_abs, arith, w32, w64, SFits, to_z, of_z}
+use Rattle.std.proofs.Common.{◌≡◌, ℕ, ◌<◌, ℤ, neg_ℤ, ◌≤ℤ◌, pos, ◌*ℤ◌, arith, w32, w64, to_z, of_z}
 use borrow.Author.Differences.{ints, abs_is}
 use Rattle.market.proofs.Facts.{sized, shared}
 use Rattle.verdict.proofs.Products.{product_bounds}

@@ -1,4 +1,4 @@
-use Rattle.std.proofs.Common.{◌≡◌, ℤ, pos, ◌*ℤ◌, nat_abs, arith, w32, w64, SFits, to_z, of_z}
+use Rattle.std.proofs.Common.{◌≡◌, ℤ, ◌*ℤ◌, arith, w32, w64, to_z, of_z}
 use borrow.Author.Differences.{ints, abs_is}
 use Rattle.verdict.specs.Rules.{span}
 use Rattle.verdict.proofs.Products.{product_bounds}

@@ -1,4 +1,4 @@
-use Rattle.std.proofs.Common.{◌≡◌, get_or, sym, ap, ◌∙◌, subst, arith}
+use Rattle.std.proofs.Common.{get_or, sym, ap, subst, arith}
 use borrow.Author.Differences.{ints}
 use Rattle.verdict.proofs.Eachs.{each_at}
 use Rattle.verdict.proofs.Sums.{sum_more, sum_all}

@@ -1,5 +1,5 @@
-use Rattle.std.proofs.Common.{◌≡◌, ℤ, pos, ◌*ℤ◌, nat_abs, arith, w32, w64, SFits, to_z, of_z}
-use borrow.Author.Differences.{ints, abs_is}
+use Rattle.std.proofs.Common.{◌≡◌, ℤ, pos, arith, w32, w64, to_z, of_z}
+use borrow.Author.Differences.{ints}
 use Rattle.verdict.proofs.Products.{product_bounds}
 use Rattle.verdict.proofs.welfare.value.Goals as goal
 
