@@ -5,4 +5,4 @@ use Rattle.engine.specs.Sound.{terms_lawful}
 use Rattle.engine.proofs.day.Day.fresh.Goals as goal
 
 pub invariant_of-result : goal.invariant_of-result
-invariant_of-result c = ((search rules, c.requires.1.0, c.requires.1.1, refl, λ k h. ap terms_lawful (get_or-replicate 100 k fresh fresh h)), tt)
+invariant_of-result c = record { sound = (search rules, c.requires.1.0, c.requires.1.1, refl, λ k h. ap terms_lawful (get_or-replicate 100 k fresh fresh h)) }

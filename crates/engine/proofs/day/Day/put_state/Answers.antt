@@ -9,4 +9,4 @@ invariant_of-self c =
     let day = c.args.self.now in
     let lt : c.args.place < length day.intervals = search rules in
     let ok : terms_lawful c.with_state-changed.result ≡ true = ap terms_lawful c.with_state-changed.ensures ∙ day.sound.4 c.args.place c.requires in
-    ((day.sound.0, day.sound.1, day.sound.2, search rules, set_passes terms_lawful day.intervals c.args.place c.with_state-changed.result fresh lt ok 100 day.sound.4), tt)
+    record { sound = (day.sound.0, day.sound.1, day.sound.2, search rules, set_passes terms_lawful day.intervals c.args.place c.with_state-changed.result fresh lt ok 100 day.sound.4) }

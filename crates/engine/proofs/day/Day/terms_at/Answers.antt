@@ -12,4 +12,4 @@ invariant_of-result c =
     let p : to_z w32 (of_z w32 x.price) ≡ x.price = omega (arith, ints) in
     let r : to_z w32 (of_z w32 x.rounded) ≡ x.rounded = omega (arith, ints) in
     let m : to_z w32 (of_z w32 day.minutes) ≡ day.minutes = omega (arith, ints) in
-    rw (p, r, m) ((t.0, t.1, quarters-lawful day.minutes day.sound.0), tt)
+    rw (p, r, m) (record { lawful = (t.0, t.1, quarters-lawful day.minutes day.sound.0) })
