@@ -3,7 +3,7 @@ use Rattle.std.proofs.Common.{◌≡◌, ℕ, zero, suc, ◌+◌, ◌-◌, ◌<�
 use borrow.Author.Differences.{ints}
 use Rattle.market.specs.declared.records.Side.{Side}
 use Rattle.market.specs.declared.records.Side.TheVariants.{Sell, Buy}
-use Rattle.std.specs.List.{AllByRecursion as All}
+use Rattle.std.specs.List.{AllByRecursion as Every}
 use Rattle.std.proofs.ByRecursion.{All-weaker, All-get_or}
 use Rattle.std.proofs.lemmas.List.{same_lists, get_or_default}
 use Rattle.std.proofs.lemmas.Bool.{and_parts, ltb-true, leb-false, cond_both, cond-true, both_ways, not-true}
@@ -100,7 +100,7 @@ signed_more Sell g l h = omega (arith, ints)
 signed_more Buy g l h = omega (arith, ints)
 
 -- The cuts of a stage take from sells less buys what they cut of that side.
-net-turns : {X : Type 0} (kind : Kind X) (xs : List X) (d : Side) (ps : List ℕ) (t : ℕ) (ns : List ℕ) (g : ℕ) → All (OnSide kind xs d) ps
+net-turns : {X : Type 0} (kind : Kind X) (xs : List X) (d : Side) (ps : List ℕ) (t : ℕ) (ns : List ℕ) (g : ℕ) → Every (OnSide kind xs d) ps
     → (net kind xs (turns last_step ps t ns g).numbers +ℤ signed d (g - (turns last_step ps t ns g).left)) ≡ net kind xs ns
 net-turns kind xs d ps t ns zero all = let z = signed_none d 0 in omega (arith, ints)
 net-turns kind xs d ps t ns (suc g) all =
@@ -119,7 +119,7 @@ net-turns kind xs d ps t ns (suc g) all =
 -- ---- both stages
 
 module _ {X : Type 0} (kind : Kind X) (i : ℕ) (gap : ℤ) (xs : List X) (fs : List ℕ) (places : Filled → List ℕ)
-    (apart : (f : Filled) → Apart (places f)) (good : (f : Filled) → All (EligibleAt kind (stage_of i gap f) xs fs) (places f)) (g : ℕ) where
+    (apart : (f : Filled) → Apart (places f)) (good : (f : Filled) → Every (EligibleAt kind (stage_of i gap f) xs fs) (places f)) (g : ℕ) where
   ns : List ℕ
   ns = rounded_numbers kind i xs fs
 
@@ -166,7 +166,7 @@ module _ {X : Type 0} (kind : Kind X) (i : ℕ) (gap : ℤ) (xs : List X) (fs : 
       let c = ap open_cuts held_kept in
       omega arith
 
-  on_side : (f : Filled) → All (OnSide kind xs (cut_side gap)) (places f)
+  on_side : (f : Filled) → Every (OnSide kind xs (cut_side gap)) (places f)
   on_side f = All-weaker (EligibleAt kind (stage_of i gap f) xs fs) (OnSide kind xs (cut_side gap)) (λ p e. eligible_side kind i gap xs fs f p e) (places f) (good f)
 
   difference : (d : Side) (a b c : ℕ) → c ≤ b → b ≤ a → signed d (a - c) ≡ (signed d (b - c) +ℤ signed d (a - b))
@@ -190,7 +190,7 @@ module _ {X : Type 0} (kind : Kind X) (i : ℕ) (gap : ℤ) (xs : List X) (fs : 
 
   right_two : CutRightly kind xs i gap ns two.numbers
   right_two =
-      let out : (f : Filled) (k : ℕ) → ((x : X) → cut_here kind i gap (get_or xs k x) ≡ false) → All (λ p. p ≢ k) (places f) =
+      let out : (f : Filled) (k : ℕ) → ((x : X) → cut_here kind i gap (get_or xs k x) ≡ false) → Every (λ p. p ≢ k) (places f) =
       λ f k h. All-weaker (EligibleAt kind (stage_of i gap f) xs fs) (λ p. p ≢ k) (λ p e. eligible_here kind i gap xs fs f p k e h) (places f) (good f) in
       record {
         fewer = λ k. omega (arith, only_one.fewer k, only_two.fewer k);

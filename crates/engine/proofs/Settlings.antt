@@ -1,7 +1,7 @@
 -- From settling over slices to settling on a passed book.
 use Rattle.std.proofs.Common.{◌≡◌, ℕ, ◌-◌, ◌<◌, ◌≤◌, Bool, true, false, ◌&&◌, leb, List, [], ◌∷◌, length, take, ℤ, pos, nat_abs, Ok, Err, Result, sym, refl, ap, ◌∙◌, arith}
 use borrow.Author.Differences.{ints, abs_is}
-use Rattle.std.specs.List.{AllByRecursion as All}
+use Rattle.std.specs.List.{AllByRecursion as Every}
 use Rattle.std.proofs.lemmas.Bool.{and_parts, leb-true}
 use Rattle.ledger.specs.declared.account.Account.{Account}
 use Rattle.ledger.specs.declared.refusal.PostRefused.{PostRefused}
@@ -25,14 +25,14 @@ use Rattle.engine.specs.Marks.{tests, is_unsettled}
 use Rattle.engine.specs.Settling.{Lengths, holds, ready, postings, steps, sheet_after, checks}
 
 -- a table of tests that refuses nothing: each test passes
-pub tests_out : (ts : List (Bool × Refusal)) → tests ts ≡ Ok tt → All (λ t. t.0 ≡ true) ts
+pub tests_out : (ts : List (Bool × Refusal)) → tests ts ≡ Ok tt → Every (λ t. t.0 ≡ true) ts
 tests_out [] e = tt
 tests_out ((true, r) ∷ ts) e = (refl, tests_out ts e)
 tests_out ((false, r) ∷ ts) e = let z : ◌≡◌ {A = ℕ} 0 1 = cc in absurd (omega arith)
 
 -- ---- what the first checks tell
 module _ (p : Passed) (d : Day) (os : List Order) (bs : List Block) (i : ℤ) (e : ready p d os bs i ≡ Ok tt) where
-  passed_tests : All {X = Bool × Refusal} (λ t. t.0 ≡ true) ((in_day d.count i, Market NoInterval) ∷ (is_unsettled (record_of d i).mark, NotUnsettled) ∷ (holds p os bs, Market Short) ∷ [])
+  passed_tests : Every {X = Bool × Refusal} (λ t. t.0 ≡ true) ((in_day d.count i, Market NoInterval) ∷ (is_unsettled (record_of d i).mark, NotUnsettled) ∷ (holds p os bs, Market Short) ∷ [])
   passed_tests = tests_out ((in_day d.count i, Market NoInterval) ∷ (is_unsettled (record_of d i).mark, NotUnsettled) ∷ (holds p os bs, Market Short) ∷ []) e
 
   pub place_small : nat_abs i - 1 < 100

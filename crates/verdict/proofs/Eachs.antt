@@ -1,6 +1,6 @@
 -- What holds of every entry, at one of them.
 use Rattle.std.proofs.Common.{◌≡◌, ℕ, zero, suc, ◌<◌, List, [], ◌∷◌, length, get_or, refl, ap, arith}
-use Rattle.std.specs.List.{AllByRecursion as All}
+use Rattle.std.specs.List.{AllByRecursion as Every}
 use Rattle.verdict.specs.Each.{Each}
 
 pub each_at : {X : Type 0} (Keeps : X → ℕ → Type 0) (xs : List X) (fs : List ℕ) (i : ℕ) (d : X) → Each Keeps xs fs → i < length xs → Keeps (get_or xs i d) (get_or fs i 0)
@@ -35,13 +35,13 @@ each_both P Q R h (x ∷ xs) [] d e = absurd d
 each_both P Q R h (x ∷ xs) (f ∷ fs) d e = (h x f d.0 e.0, each_both P Q R h xs fs d.1 e.1)
 
 -- what holds of every record holds of it with any fill
-pub each_all : {X : Type 0} (P : X → Type 0) (xs : List X) (fs : List ℕ) → length xs ≡ length fs → All P xs → Each (λ x f. P x) xs fs
+pub each_all : {X : Type 0} (P : X → Type 0) (xs : List X) (fs : List ℕ) → length xs ≡ length fs → Every P xs → Each (λ x f. P x) xs fs
 each_all P [] [] s a = tt
 each_all P [] (f ∷ fs) s a = absurd (omega arith)
 each_all P (x ∷ xs) [] s a = absurd (omega arith)
 each_all P (x ∷ xs) (f ∷ fs) s a = (a.0, each_all P xs fs (omega arith) a.1)
 
-pub all_each : {X : Type 0} (P : X → Type 0) (xs : List X) (fs : List ℕ) → Each (λ x f. P x) xs fs → All P xs
+pub all_each : {X : Type 0} (P : X → Type 0) (xs : List X) (fs : List ℕ) → Each (λ x f. P x) xs fs → Every P xs
 all_each P [] fs e = tt
 all_each P (x ∷ xs) [] e = absurd e
 all_each P (x ∷ xs) (f ∷ fs) e = (e.0, all_each P xs fs e.1)

@@ -1,6 +1,6 @@
 -- The verdict accepts a paper exactly where everything is in order and every rule holds; else it names the first that is broken.
 use Rattle.std.proofs.Common.{◌≡◌, ℕ, zero, suc, ◌+◌, ◌<◌, true, not, ◌&&◌, ◌||◌, eqb, leb, ◌⊎◌, List, [], ◌∷◌, length, get_or, replicate, ℤ, pos, Ok, Err, Result, sym, refl, ap, ◌∙◌, subst, inl, inr, ⊎_elim, arith}
-use Rattle.std.specs.List.{AllByRecursion as All}
+use Rattle.std.specs.List.{AllByRecursion as Every}
 use Rattle.std.proofs.lemmas.List.{length-replicate}
 use Rattle.market.specs.declared.records.Order.{Order}
 use Rattle.market.specs.declared.records.Block.{Block}
@@ -44,11 +44,11 @@ quantity_err q f k e p = let t = one_err (within q f) (OverQuantity k) e p in (f
 
 -- ---- the phases, both ways
 module _ {X : Type 0} (entry : X → Result Unit Refusal) (Lawful : X → Type 0) where
-  lawful_out : ((x : X) → entry x ≡ Ok tt → Lawful x) → (xs : List X) (fs : List ℕ) (k : ℕ) → length xs ≡ length fs → first_in (λ x n. outside n (entry x)) xs k ≡ Ok tt → All Lawful xs
+  lawful_out : ((x : X) → entry x ≡ Ok tt → Lawful x) → (xs : List X) (fs : List ℕ) (k : ℕ) → length xs ≡ length fs → first_in (λ x n. outside n (entry x)) xs k ≡ Ok tt → Every Lawful xs
   lawful_out out xs fs k s e =
       all_each Lawful xs fs (each_out (λ x f n. outside n (entry x)) (λ x f. Lawful x) (λ x f j h. out x (outside_out j (entry x) h)) xs fs k s (in_filled (λ x n. outside n (entry x)) xs fs k s ∙ e))
 
-  lawful_back : ((x : X) → Lawful x → entry x ≡ Ok tt) → (xs : List X) (fs : List ℕ) (k : ℕ) → length xs ≡ length fs → All Lawful xs → first_in (λ x n. outside n (entry x)) xs k ≡ Ok tt
+  lawful_back : ((x : X) → Lawful x → entry x ≡ Ok tt) → (xs : List X) (fs : List ℕ) (k : ℕ) → length xs ≡ length fs → Every Lawful xs → first_in (λ x n. outside n (entry x)) xs k ≡ Ok tt
   lawful_back back xs fs k s a =
       sym (in_filled (λ x n. outside n (entry x)) xs fs k s)
       ∙ each_back (λ x f n. outside n (entry x)) (λ x f. Lawful x) (λ x f j h. outside_back j (entry x) (back x h)) xs fs k (each_all Lawful xs fs s a)

@@ -1,7 +1,7 @@
 -- A paper that passes has the most welfare of all that fill the blocks alike.
 use Rattle.std.proofs.Common.{◌≡◌, ℕ, ◌+◌, ◌-◌, ◌*◌, ◌≤◌, List, [], ◌∷◌, length, get_or, ℤ, pos, nat_abs, ◌≤ℤ◌, Ok, Err, Result, sym, ◌∙◌, subst, arith}
 use borrow.Author.Differences.{ints, abs_is}
-use Rattle.std.specs.List.{AllByRecursion as All}
+use Rattle.std.specs.List.{AllByRecursion as Every}
 use Rattle.market.specs.declared.records.Side.{Side}
 use Rattle.market.specs.declared.records.Side.TheVariants.{Sell, Buy}
 use Rattle.market.specs.declared.records.Order.{Order}
@@ -40,23 +40,23 @@ module _ (day : List Interval) where
   abbrev Fits : Order → ℕ → Type 0
   Fits o = WithinQuantity o.quantity
 
-  in_day : (os : List Order) → All (LawfulOrder (length day)) os → InDay (length day) os
+  in_day : (os : List Order) → Every (LawfulOrder (length day)) os → InDay (length day) os
   in_day [] a = tt
   in_day (o ∷ os) a = (a.0.in_day, in_day os a.1)
 
-  within : (os : List Order) (hs : List ℕ) → All (LawfulOrder (length day)) os → Each Fits os hs → Within os hs
+  within : (os : List Order) (hs : List ℕ) → Every (LawfulOrder (length day)) os → Each Fits os hs → Within os hs
   within [] [] a w = none
   within [] (h ∷ hs) a w = absurd w
   within (o ∷ os) [] a w = absurd w
   within (o ∷ os) (h ∷ hs) a w = more (most_from o.quantity h a.0.terms.sized.0 w.0) (within os hs a.1 w.1)
 
-  meets : (os : List Order) (hs : List ℕ) → All (LawfulOrder (length day)) os → Each Fits os hs → Each (OrderMeetsPrice day) os hs → Meets price os hs
+  meets : (os : List Order) (hs : List ℕ) → Every (LawfulOrder (length day)) os → Each Fits os hs → Each (OrderMeetsPrice day) os hs → Meets price os hs
   meets [] hs a w m = tt
   meets (o ∷ os) [] a w m = tt
   meets (o ∷ os) (h ∷ hs) a w m =
       (rules_from o.side o.limit o.quantity (price (nat_abs o.interval)) h a.0.terms.sized.0 w.0 m.0.empty m.0.full, meets os hs a.1 w.1 m.1)
 
-  met : (os : List Order) (hs : List ℕ) → All (LawfulOrder (length day)) os → Each Fits os hs → Meets price os hs → Each (OrderMeetsPrice day) os hs
+  met : (os : List Order) (hs : List ℕ) → Every (LawfulOrder (length day)) os → Each Fits os hs → Meets price os hs → Each (OrderMeetsPrice day) os hs
   met [] [] a w m = tt
   met [] (h ∷ hs) a w m = absurd w
   met (o ∷ os) [] a w m = absurd w

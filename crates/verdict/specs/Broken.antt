@@ -1,6 +1,6 @@
 -- What a verdict says: the welfare of a paper that keeps every rule, or the first rule that is broken, with its place.
 use Rattle.std.specs.Prelude.{◌≡◌, ℕ, ◌+◌, ◌<◌, ◌⊎◌, List, length, ℤ, Ok, Err, Result, slice_index, slice_index_or}
-use Rattle.std.specs.List.{AllByRecursion as All}
+use Rattle.std.specs.List.{AllByRecursion as Every}
 use Rattle.market.specs.declared.records.Order.{Order}
 use Rattle.market.specs.declared.records.Block.{Block}
 use Rattle.market.specs.declared.records.Interval.{Interval}
@@ -49,7 +49,7 @@ module _ (day : List Interval) (os : List Order) (fs : List ℕ) (bs : List Bloc
   -- the first broken rule of a paper of lawful lengths: everything that comes before it holds
   pub data Broken : Refusal → Type 0 where
     order_outside : (i : ℕ) → FirstNot (length os) (OrderAt (λ o f. LawfulOrder (length day) o)) i → Broken (OutsideBounds (1 + i))
-    block_outside : All (LawfulOrder (length day)) os
+    block_outside : Every (LawfulOrder (length day)) os
         → (i : ℕ) → FirstNot (length bs) (BlockAt (λ b f. LawfulBlock (length day) b)) i → Broken (OutsideBounds (next os + i))
     order_over : LawfulBook (length day) os bs
         → (i : ℕ) → FirstNot (length os) (OrderAt (λ o. WithinQuantity o.quantity)) i → Broken (OverQuantity (1 + i))

@@ -1,6 +1,6 @@
 -- What a paper on a book has to keep, in the words of the rules.
 use Rattle.std.specs.Prelude.{◌≡◌, ℕ, ◌+◌, ◌<◌, ◌≤◌, List, length, ℤ, pos, ◌*ℤ◌, neg_ℤ, ◌≤ℤ◌, ◌<ℤ◌, slice_index_or}
-use Rattle.std.specs.List.{AllByRecursion as All}
+use Rattle.std.specs.List.{AllByRecursion as Every}
 use Rattle.market.specs.declared.records.Side.{Side}
 use Rattle.market.specs.declared.records.Side.TheVariants.{Sell, Buy}
 use Rattle.market.specs.declared.records.Order.{Order}
@@ -39,8 +39,8 @@ pub record LawfulBlock (n : ℕ) (b : Block) : Type 0 where
 
 -- every order and every block of the book is within the bounds of entry
 pub record LawfulBook (n : ℕ) (os : List Order) (bs : List Block) : Type 0 where
-  pub orders : All (LawfulOrder n) os
-  pub blocks : All (LawfulBlock n) bs
+  pub orders : Every (LawfulOrder n) os
+  pub blocks : Every (LawfulBlock n) bs
 
 -- a day of at most 100 intervals, and a paper with one fill to each entry
 pub record Fits (day : List Interval) (os : List Order) (fs : List ℕ) (bs : List Block) (gs : List ℕ) : Type 0 where
