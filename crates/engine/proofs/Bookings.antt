@@ -1,5 +1,5 @@
 -- What the tests of booking tell.
-use Rattle.std.proofs.Common.{◌≡◌, ℕ, ◌-◌, ◌<◌, Bool, true, false, cond, ◌&&◌, ℤ, pos, nat_abs, Ok, Err, Result, sym, refl, ap, ◌∙◌, arith}
+use Rattle.std.proofs.Common.{◌≡◌, ◌-◌, ◌<◌, Bool, true, false, cond, ◌&&◌, ℤ, pos, nat_abs, Ok, Err, Result, ap, ◌∙◌, arith}
 use borrow.Author.Differences.{ints, abs_is}
 use Rattle.std.proofs.lemmas.Bool.{and_parts}
 use Rattle.ledger.specs.declared.refusal.PostRefused.{PostRefused}

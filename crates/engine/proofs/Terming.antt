@@ -1,5 +1,5 @@
 -- The terms of a record of a day are within the bounds of settling.
-use Rattle.std.proofs.Common.{◌≡◌, ℕ, ◌/◌, Bool, true, ◌&&◌, ◌||◌, ℤ, pos, ◌-ℤ◌, ◌*ℤ◌, neg_ℤ, nat_abs, ◌≤ℤ◌, sym, ap, ⊎_elim, arith}
+use Rattle.std.proofs.Common.{◌≡◌, ◌/◌, true, ◌&&◌, ◌||◌, ℤ, pos, ◌-ℤ◌, ◌*ℤ◌, neg_ℤ, nat_abs, ◌≤ℤ◌, sym, ap, ⊎_elim, arith}
 use lib.Signed.{le_z, lt_z}
 use borrow.Author.Differences.{ints}
 use Rattle.std.proofs.lemmas.Bool.{and_parts, and_from, or_cases}

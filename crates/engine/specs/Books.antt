@@ -1,11 +1,9 @@
 -- The book: what the calls of an open and of a closed book answer, and what they leave.
-use Rattle.std.specs.Prelude.{◌≡◌, ℕ, ◌+◌, ◌≤◌, Bool, ◌&&◌, ◌⊎◌, List, [], ◌∷◌, length, ℤ, Ok, Err, Result, nat_lt, slice_set, unsigned_abs}
-use Rattle.market.specs.declared.records.Order.{Order}
-use Rattle.market.specs.declared.records.Block.{Block}
+use Rattle.std.specs.Prelude.{◌≡◌, ℕ, ◌+◌, ◌&&◌, List, [], ◌∷◌, ℤ, Ok, Err, Result, nat_lt, slice_set, unsigned_abs}
 use Rattle.market.specs.declared.refusal.Refusal.{Refusal}
-use Rattle.market.specs.declared.refusal.Refusal.TheVariants.{Full, Short}
+use Rattle.market.specs.declared.refusal.Refusal.TheVariants.{Full}
 use Rattle.market.specs.First.{tests, then}
-use Rattle.market.specs.Bounds.{start_bounds, terms_bounds, order_bounds, block_bounds}
+use Rattle.market.specs.Bounds.{start_bounds}
 use Rattle.engine.specs.declared.day.Day.{Day}
 use Rattle.engine.specs.declared.book.Open.{Open}
 use Rattle.engine.specs.Days.{Fresh, Recorded, place_of, record_of, with_terms}

@@ -1,5 +1,5 @@
 -- A day: its records, and what the calls make of them.
-use Rattle.std.specs.Prelude.{◌≡◌, ℕ, ◌-◌, ◌/◌, Bool, cond, List, take, set, replicate, ℤ, Some, None, Option, slice_index_or, slice_set, unsigned_abs}
+use Rattle.std.specs.Prelude.{◌≡◌, ℕ, ◌-◌, ◌/◌, cond, List, take, replicate, ℤ, Some, None, Option, slice_index_or, slice_set, unsigned_abs}
 use Rattle.market.specs.declared.records.Interval.{Interval}
 use Rattle.market.specs.declared.records.Mark.{Mark}
 use Rattle.market.specs.Blank.{fresh}

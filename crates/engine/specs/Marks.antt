@@ -1,5 +1,5 @@
 -- The marks of an interval, and a remainder in hand.
-use Rattle.std.specs.Prelude.{◌≡◌, ℕ, ◌-◌, Bool, true, false, cond, ◌&&◌, List, [], ◌∷◌, ℤ, Ok, Err, Result}
+use Rattle.std.specs.Prelude.{◌≡◌, Bool, true, false, cond, ◌&&◌, List, [], ◌∷◌, ℤ, Ok, Err, Result}
 use Rattle.market.specs.declared.records.Interval.{Interval}
 use Rattle.market.specs.declared.records.Mark.{Mark}
 use Rattle.market.specs.declared.records.Mark.TheVariants.{Unsettled, Out, Noted, Closed}

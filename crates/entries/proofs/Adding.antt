@@ -1,5 +1,5 @@
 -- What the amounts of an interval's postings add up to.
-use Rattle.std.proofs.Common.{◌≡◌, ℕ, zero, suc, ◌+◌, ◌-◌, ◌<◌, ◌≤◌, Bool, true, false, cond, eqb, ltb, List, [], ◌∷◌, ◌++◌, length, get_or, ℤ, pos, negsuc, ◌+ℤ◌, ◌-ℤ◌, ◌*ℤ◌, neg_ℤ, Some, None, Option, sym, refl, ap, ◌∙◌, ap₂, mul-zero, zero-mul, arith}
+use Rattle.std.proofs.Common.{◌≡◌, ℕ, zero, suc, ◌+◌, ◌-◌, ◌<◌, cond, eqb, List, [], ◌∷◌, ◌++◌, length, get_or, ℤ, pos, negsuc, ◌+ℤ◌, ◌*ℤ◌, neg_ℤ, Some, None, sym, refl, ap, ◌∙◌, ap₂, mul-zero, zero-mul, arith}
 use Rattle.std.proofs.lemmas.List.{get_or_append_left, get_or-append_right}
 use Rattle.std.proofs.lemmas.Int.{ints}
 use Rattle.std.proofs.lemmas.Bool.{lt-ltb, le-ltb, eqb-true}
@@ -13,8 +13,7 @@ use Rattle.verdict.proofs.Ring.{add-mul, mul-add, neg-mul, mul-neg}
 use Rattle.cuts.specs.Kinds.{orders, blocks}
 use Rattle.cuts.specs.Numbers.{signed, net}
 use Rattle.cuts.specs.Settled.{balance}
-use Rattle.posting.specs.declared.posting.Posting.{Posting}
-use Rattle.posting.specs.Postings.{one, listed, amounts}
+use Rattle.posting.specs.Postings.{one, amounts}
 use Rattle.entries.specs.declared.book.Party.{Party}
 use Rattle.entries.specs.Amounts.{Conditions, worth, party_at, order_party, block_party, posting_of, exchange, settle_slot, settle_postings}
 use Rattle.entries.proofs.Sums.{upto, upto_same, upto_split, amounts_upto, net_upto}

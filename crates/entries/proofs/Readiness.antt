@@ -1,5 +1,5 @@
 -- What the checks of settling come to, where they pass.
-use Rattle.std.proofs.Common.{◌≡◌, ℕ, ◌+◌, ◌*◌, ◌/◌, ◌^◌, ◌<◌, ◌≤◌, Bool, true, ◌&&◌, leb, List, [], ◌∷◌, length, get_or, ℤ, pos, negsuc, neg_ℤ, nat_abs, Ok, sym, refl, ap, ◌∙◌, subst, ⊎_elim, arith, w32, SFits}
+use Rattle.std.proofs.Common.{◌≡◌, ℕ, ◌+◌, ◌*◌, ◌<◌, ◌≤◌, true, ◌&&◌, leb, List, [], ◌∷◌, length, get_or, ℤ, pos, negsuc, neg_ℤ, nat_abs, Ok, sym, ⊎_elim, arith, w32, SFits}
 use borrow.Author.Differences.{ints, abs_is}
 use lib.Signed.{mag}
 use Rattle.std.proofs.lemmas.List.{get_or_past}
@@ -10,8 +10,7 @@ use Rattle.market.specs.declared.refusal.Refusal.TheVariants.{NoInterval, Short}
 use Rattle.market.specs.Blank.{no_order, no_block}
 use Rattle.market.specs.First.{tests}
 use Rattle.market.proofs.Facts.{tests_out, between_two}
-use Rattle.verdict.specs.Each.{Each}
-use Rattle.verdict.specs.Verdict.{paper_checks, paper_lengths, bounds, quantities, Sized}
+use Rattle.verdict.specs.Verdict.{paper_checks, paper_lengths, bounds, quantities}
 use Rattle.verdict.proofs.Firsts.{then_ok}
 use Rattle.verdict.proofs.Eachs.{each_at}
 use Rattle.verdict.proofs.Judging.{sized_from, orders_mild, blocks_mild}
@@ -19,7 +18,6 @@ use Rattle.cuts.specs.Rounding.{nearest}
 use Rattle.cuts.specs.Settled.{remainder_of}
 use Rattle.cuts.proofs.Remainders.{settles}
 use Rattle.entries.specs.declared.terms.Terms.{Terms}
-use Rattle.entries.specs.Sheet.{Laid}
 use Rattle.entries.specs.Lawful.{rounded_ok}
 use Rattle.entries.specs.Settles.{interval_ok, few, work_ok, room_ok, settle_checks, SizedFor, Ready}
 

@@ -1,12 +1,11 @@
 -- The amounts of an interval, and its postings.
-use Rattle.std.specs.Prelude.{◌≡◌, ℕ, suc, ◌+◌, ◌-◌, Bool, cond, List, length, ℤ, pos, ◌*ℤ◌, neg_ℤ, Some, None, Option, ◌==◌, nat_lt, slice_index, slice_index_or, unsigned_abs}
+use Rattle.std.specs.Prelude.{ℕ, suc, ◌+◌, ◌-◌, cond, List, length, ℤ, pos, ◌*ℤ◌, neg_ℤ, Some, None, Option, ◌==◌, nat_lt, slice_index, slice_index_or, unsigned_abs}
 use Rattle.market.specs.declared.records.Order.{Order}
 use Rattle.market.specs.declared.records.Block.{Block}
 use Rattle.market.specs.Blank.{no_order, no_block}
 use Rattle.cuts.specs.Numbers.{signed}
-use Rattle.cuts.specs.Settled.{balance}
 use Rattle.posting.specs.declared.posting.Posting.{Posting}
-use Rattle.posting.specs.Postings.{listed, amounts}
+use Rattle.posting.specs.Postings.{listed}
 use Rattle.entries.specs.declared.book.Party.{Party}
 use Rattle.entries.specs.declared.terms.Terms.{Terms}
 

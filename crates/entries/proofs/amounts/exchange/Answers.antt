@@ -1,6 +1,5 @@
-use Rattle.std.proofs.Common.{◌≡◌, ℤ, neg_ℤ, ap, ◌∙◌, w32, w64, SFits, to_z, of_z, rules}
+use Rattle.std.proofs.Common.{◌≡◌, ℤ, neg_ℤ, ap, ◌∙◌, w32, w64, SFits, rules}
 use Rattle.std.proofs.lemmas.Int.{to_z-of_z}
-use Rattle.posting.specs.declared.posting.Posting.{Posting}
 use Rattle.entries.specs.Amounts.{conditions, worth}
 use Rattle.entries.proofs.amounts.exchange.Goals as goal
 

@@ -1,4 +1,4 @@
-use Rattle.std.proofs.Common.{◌≡◌, sym, ◌∙◌}
+use Rattle.std.proofs.Common.{sym, ◌∙◌}
 use Rattle.entries.proofs.Checking.{no_interval, too_short, paper_next}
 use Rattle.entries.proofs.checks.check_settling.Goals as goal
 

@@ -1,5 +1,5 @@
 use Rattle.entries.specs.Amounts.{conditions}
-use Rattle.std.proofs.Common.{◌≡◌, length, Ok, Err, Result, sym, refl, ap, ◌∙◌}
+use Rattle.std.proofs.Common.{length, Result, sym, refl, ap, ◌∙◌}
 use Rattle.market.specs.declared.refusal.Refusal.{Refusal}
 use Rattle.ledger.specs.Model.{if_taken}
 use Rattle.posting.specs.Postings.{answers, posted_all, left}

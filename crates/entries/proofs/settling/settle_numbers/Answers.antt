@@ -1,4 +1,4 @@
-use Rattle.std.proofs.Common.{◌≡◌, ◌≤◌, nat_abs, ◌∙◌, w32, w64, SFits, rules}
+use Rattle.std.proofs.Common.{◌≡◌, ◌∙◌, w32, w64, SFits, rules}
 use Rattle.std.proofs.lemmas.Int.{to_z-of_z}
 use Rattle.std.proofs.lemmas.Bool.{cond-true}
 use Rattle.cuts.specs.Settled.{remainder_of}

@@ -1,4 +1,4 @@
-use Rattle.std.proofs.Common.{◌≡◌, ℕ, ◌+◌, ◌<◌, cond, List, length, get_or, set, sym, refl, ap, ◌∙◌, subst, add-one, arith}
+use Rattle.std.proofs.Common.{◌≡◌, ℕ, ◌+◌, cond, List, length, get_or, set, sym, refl, ap, ◌∙◌, subst, add-one, arith}
 use Rattle.entries.specs.Sheet.{Fits, written, of_interval, place_of, sheet_with}
 use Rattle.entries.proofs.Rows.{fits}
 use Rattle.entries.proofs.sheet.write_numbers.Goals as goal

@@ -1,4 +1,4 @@
-use Rattle.std.proofs.Common.{◌≡◌, ◌≤◌, ℤ, pos, Ok, Result, sym, refl, ◌∙◌, arith, w32, to_z, of_z}
+use Rattle.std.proofs.Common.{◌≡◌, ◌≤◌, ℤ, pos, Ok, sym, refl, arith, w32, to_z, of_z}
 use borrow.Author.Differences.{ints, abs_is}
 use Rattle.std.proofs.lemmas.Result.{err_from_is_err_and}
 use Rattle.market.specs.Bounds.{terms_table, terms_bounds}

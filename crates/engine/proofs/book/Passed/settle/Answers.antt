@@ -1,5 +1,5 @@
 use Rattle.std.proofs.Common.{◌≡◌, ℕ, ◌-◌, length, get_or, set, ℤ, ◌+ℤ◌, nat_abs, Ok, Err, Result, sym, refl, ap, ◌∙◌, arith, w32, SFits, to_z, of_z, rules}
-use borrow.Author.Differences.{ints, abs_is}
+use borrow.Author.Differences.{ints}
 use Rattle.std.proofs.lemmas.Int.{to_z-of_z}
 use Rattle.ledger.specs.Model.{total}
 use Rattle.posting.specs.Postings.{answers, posted_all}
@@ -10,7 +10,7 @@ use Rattle.entries.specs.Amounts.{Conditions, worth, conditions}
 use Rattle.entries.specs.Settles.{settle_checks, settle_list, settle_steps, settle_sheet, with_steps, checked}
 use Rattle.engine.specs.declared.refusal.Refusal.{Refusal}
 use Rattle.engine.specs.Days.{place_of, record_of, with_state, conditions_of}
-use Rattle.engine.specs.Settling.{ready, lifted, then, lengths_of, postings, steps, sheet_after, checks}
+use Rattle.engine.specs.Settling.{ready, lifted, then, lengths_of, postings, steps, checks}
 use Rattle.engine.proofs.Settlings.{place_small, same_checks, same_postings, same_steps, same_sheet, ok_parts, err_keeps, ok_gives}
 use Rattle.engine.proofs.book.Passed.settle.Goals as goal
 

@@ -1,4 +1,4 @@
-use Rattle.std.proofs.Common.{◌≡◌, get_or, ℤ, arith, w32, to_z, of_z}
+use Rattle.std.proofs.Common.{◌≡◌, get_or, arith, w32, to_z, of_z}
 use borrow.Author.Differences.{ints}
 use Rattle.market.specs.Blank.{fresh}
 use Rattle.engine.proofs.Terming.{terms_bounded, quarters-lawful}

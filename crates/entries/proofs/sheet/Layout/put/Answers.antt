@@ -1,4 +1,4 @@
-use Rattle.std.proofs.Common.{◌≡◌, ℕ, ◌+◌, ◌-◌, ◌<◌, ◌≤◌, false, ltb, length, arith}
+use Rattle.std.proofs.Common.{◌≡◌, ◌+◌, ◌-◌, ◌<◌, ◌≤◌, false, ltb, length, arith}
 use Rattle.std.proofs.lemmas.Bool.{le-ltb}
 use Rattle.entries.specs.Sheet.{row_of}
 use Rattle.entries.proofs.Rows.{row-set}
