@@ -9,7 +9,7 @@ mod tests {
     use cuts::rounding::nearest;
     use cuts::settled::{rounded_numbers, settled_numbers};
     use market::records::{Block, Market, Order, Side};
-    use std::process::Abort;
+    use std::test::Fail;
 
     const NO_BLOCK: BlockCandidate = BlockCandidate {
         steps: 0,
@@ -57,7 +57,6 @@ mod tests {
 
     // The gap, the settled numbers of the orders and then of the blocks, and the remainder.
     fn settles(
-        rt: &impl Abort,
         orders: &[Order],
         fills: &[u32],
         blocks: &[Block],
@@ -66,15 +65,14 @@ mod tests {
         gap: i64,
         settled: &[u32],
         remainder: i64,
-    ) {
+    ) -> Result<(), Fail> {
         let mut order_list = [NO_ORDER; 16];
         let mut block_list = [NO_BLOCK; 16];
         let mut numbers = [7; 16];
-        assert_eq!(rt;
-            rounded_numbers(orders, fills, blocks, block_fills, 1, rounded, &mut numbers),
-            Some(gap),
-            "the gap"
-        );
+        let found = rounded_numbers(orders, fills, blocks, block_fills, 1, rounded, &mut numbers);
+        if found != Some(gap) {
+            return Err(Fail::new("the gap"));
+        }
         let answer = settled_numbers(
             orders,
             fills,
@@ -86,11 +84,15 @@ mod tests {
             &mut block_list,
             &mut numbers,
         );
-        assert_eq!(rt; answer, Some(remainder), "the remainder");
-        for (at, number) in settled.iter().enumerate() {
-            assert!(rt; at < 16);
-            assert_eq!(rt; numbers[at], *number, "a settled number");
+        if answer != Some(remainder) {
+            return Err(Fail::new("the remainder"));
         }
+        for (at, number) in settled.iter().enumerate() {
+            if at >= 16 || numbers[at] != *number {
+                return Err(Fail::new("a settled number"));
+            }
+        }
+        Ok(())
     }
 
     #[test]
@@ -117,9 +119,8 @@ mod tests {
     }
 
     #[test]
-    fn leaves_what_no_cut_reaches(rt: HostRuntime) {
+    fn leaves_what_no_cut_reaches() -> Result<(), Fail> {
         settles(
-            &rt,
             &[SELL, SELL, SELL, BUY],
             &[50, 50, 50, 100],
             &[],
@@ -128,11 +129,11 @@ mod tests {
             2,
             &[1, 1, 1, 1],
             2,
-        );
+        )
     }
 
     #[test]
-    fn cuts_by_rank(rt: HostRuntime) {
+    fn cuts_by_rank() -> Result<(), Fail> {
         let derivative = Order {
             market: Market::Derivative,
             quantity: 3,
@@ -162,59 +163,29 @@ mod tests {
             ..SELL
         };
         // One cut falls on the first in rank: spot before derivative, the larger, the lower limit, the earlier, the lower account.
-        settles(
-            &rt,
-            &[derivative, spot],
-            &[300, 300],
-            &[],
-            &[],
-            5,
-            1,
-            &[3, 2],
-            0,
-        );
-        settles(
-            &rt,
-            &[spot, larger],
-            &[300, 400],
-            &[],
-            &[],
-            6,
-            1,
-            &[3, 3],
-            0,
-        );
-        settles(&rt, &[spot, lower], &[300, 300], &[], &[], 5, 1, &[3, 2], 0);
-        settles(&rt, &[later, spot], &[300, 300], &[], &[], 5, 1, &[3, 2], 0);
-        settles(&rt, &[other, spot], &[300, 300], &[], &[], 5, 1, &[3, 2], 0);
+        settles(&[derivative, spot], &[300, 300], &[], &[], 5, 1, &[3, 2], 0)?;
+        settles(&[spot, larger], &[300, 400], &[], &[], 6, 1, &[3, 3], 0)?;
+        settles(&[spot, lower], &[300, 300], &[], &[], 5, 1, &[3, 2], 0)?;
+        settles(&[later, spot], &[300, 300], &[], &[], 5, 1, &[3, 2], 0)?;
+        settles(&[other, spot], &[300, 300], &[], &[], 5, 1, &[3, 2], 0)
     }
 
     #[test]
-    fn cuts_equals_by_entry(rt: HostRuntime) {
+    fn cuts_equals_by_entry() -> Result<(), Fail> {
         let sell = Order {
             quantity: 3,
             ..SELL
         };
-        settles(&rt, &[sell, sell], &[300, 300], &[], &[], 5, 1, &[2, 3], 0);
+        settles(&[sell, sell], &[300, 300], &[], &[], 5, 1, &[2, 3], 0)?;
         let block = Block {
             quantity: 3,
             ..BLOCK
         };
-        settles(
-            &rt,
-            &[],
-            &[],
-            &[block, block],
-            &[300, 300],
-            5,
-            1,
-            &[2, 3],
-            0,
-        );
+        settles(&[], &[], &[block, block], &[300, 300], 5, 1, &[2, 3], 0)
     }
 
     #[test]
-    fn cuts_buys_with_higher_limits_first(rt: HostRuntime) {
+    fn cuts_buys_with_higher_limits_first() -> Result<(), Fail> {
         let low = Order {
             limit: 10,
             quantity: 3,
@@ -225,11 +196,11 @@ mod tests {
             quantity: 3,
             ..BUY
         };
-        settles(&rt, &[low, high], &[300, 300], &[], &[], -5, -1, &[3, 2], 0);
+        settles(&[low, high], &[300, 300], &[], &[], -5, -1, &[3, 2], 0)
     }
 
     #[test]
-    fn takes_turns_until_one_holds_a_single_step(rt: HostRuntime) {
+    fn takes_turns_until_one_holds_a_single_step() -> Result<(), Fail> {
         let five = Order {
             quantity: 5,
             ..SELL
@@ -240,7 +211,6 @@ mod tests {
         };
         // Five, two, two in rank order: four cuts are open, and the second round stops at the first that holds one step.
         settles(
-            &rt,
             &[five, two, two],
             &[500, 200, 200],
             &[],
@@ -249,9 +219,8 @@ mod tests {
             9,
             &[3, 1, 1],
             5,
-        );
+        )?;
         settles(
-            &rt,
             &[five, two, two],
             &[500, 200, 200],
             &[],
@@ -260,11 +229,11 @@ mod tests {
             3,
             &[4, 1, 1],
             0,
-        );
+        )
     }
 
     #[test]
-    fn judges_partly_filled_on_the_fill(rt: HostRuntime) {
+    fn judges_partly_filled_on_the_fill() -> Result<(), Fail> {
         // Both round to three steps; only the second is below its quantity, so it is cut first although it ranks behind.
         let full = Order {
             quantity: 3,
@@ -275,21 +244,11 @@ mod tests {
             stamp: 2,
             ..SELL
         };
-        settles(
-            &rt,
-            &[full, partly],
-            &[300, 299],
-            &[],
-            &[],
-            5,
-            1,
-            &[3, 2],
-            0,
-        );
+        settles(&[full, partly], &[300, 299], &[], &[], 5, 1, &[3, 2], 0)
     }
 
     #[test]
-    fn runs_through_all_four_stages(rt: HostRuntime) {
+    fn runs_through_all_four_stages() -> Result<(), Fail> {
         let order = Order {
             quantity: 3,
             ..SELL
@@ -307,7 +266,6 @@ mod tests {
             (3, 9, 1, 1, 1, 1, 1),
         ] {
             settles(
-                &rt,
                 &[order, order],
                 &[300, 299],
                 &[block, block],
@@ -316,12 +274,13 @@ mod tests {
                 gap,
                 &[first, second, third, fourth],
                 remainder,
-            );
+            )?;
         }
+        Ok(())
     }
 
     #[test]
-    fn passes_over_other_intervals(rt: HostRuntime) {
+    fn passes_over_other_intervals() -> Result<(), Fail> {
         let elsewhere = Order {
             interval: 2,
             quantity: 3,
@@ -337,7 +296,6 @@ mod tests {
             ..BLOCK
         };
         settles(
-            &rt,
             &[elsewhere, here],
             &[300, 300],
             &[past],
@@ -346,7 +304,7 @@ mod tests {
             1,
             &[0, 2, 0],
             0,
-        );
+        )
     }
 
     #[test]
