@@ -2,7 +2,7 @@
 use Rattle.std.proofs.Common.{◌≡◌, ℕ, ◌+◌, true, ◌&&◌, eqb, leb, List, ◌++◌, length, take, drop, ℤ, nat_abs, refl, ◌∙◌, ap₂}
 use Rattle.market.specs.declared.records.Order.{Order}
 use Rattle.market.specs.declared.records.Block.{Block}
-use Rattle.cuts.specs.Kinds.{orders, blocks}
+use Rattle.market.specs.Kinds.{orders, blocks}
 use Rattle.cuts.specs.Numbers.{rounded_numbers}
 use Rattle.cuts.specs.declared.gather.Filled.{Filled}
 use Rattle.cuts.specs.Stages.{Rule, last_step}

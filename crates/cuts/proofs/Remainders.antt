@@ -6,9 +6,11 @@ use Rattle.market.specs.declared.records.Side.TheVariants.{Sell, Buy}
 use Rattle.market.specs.declared.records.Order.{Order}
 use Rattle.market.specs.declared.records.Block.{Block}
 use Rattle.cuts.specs.declared.gather.Filled.{Filled}
-use Rattle.cuts.specs.Kinds.{orders, blocks, order_stands, block_stands}
+use Rattle.market.specs.Kinds.{orders, blocks}
+use Rattle.cuts.specs.Kinds.{order_stands, block_stands}
 use Rattle.cuts.specs.Ranks.{order_before, block_before}
-use Rattle.cuts.specs.Numbers.{rounded_numbers, signed, net}
+use Rattle.market.specs.Signed.{signed}
+use Rattle.cuts.specs.Numbers.{rounded_numbers, net}
 use Rattle.cuts.specs.Settled.{order_places, block_places, stage_of, gap_of, orders_cut, blocks_cut, settled_orders, settled_blocks, remainder_of}
 use Rattle.cuts.specs.SettledLaws.{cut_side, open_cuts_of, Settles}
 use Rattle.cuts.proofs.Standing.{places_eligible, places_apart}

@@ -3,7 +3,7 @@ use Rattle.std.proofs.Common.{◌≡◌, ℕ, suc, ◌+◌, ◌<◌, Bool, true,
 use Rattle.std.specs.List.{AllByRecursion as Every}
 use Rattle.std.proofs.ByRecursion.{All-map}
 use Rattle.cuts.specs.declared.gather.Stage.{Stage}
-use Rattle.cuts.specs.Kinds.{Kind}
+use Rattle.market.specs.Kinds.{Kind}
 use Rattle.cuts.specs.Rounding.{nearest}
 use Rattle.cuts.specs.Ordered.{placed, ranked}
 use Rattle.cuts.specs.Eligible.{eligible, candidates}

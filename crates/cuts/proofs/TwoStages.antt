@@ -9,10 +9,11 @@ use Rattle.std.proofs.lemmas.List.{same_lists, get_or_default}
 use Rattle.std.proofs.lemmas.Bool.{and_parts, ltb-true, leb-false, cond_both, cond-true, both_ways, not-true}
 use Rattle.cuts.specs.declared.gather.Filled.{Filled}
 use Rattle.cuts.specs.declared.gather.Filled.TheVariants.{Partly, Full}
-use Rattle.cuts.specs.Kinds.{Kind}
+use Rattle.market.specs.Kinds.{Kind}
 use Rattle.cuts.specs.Rounding.{nearest}
 use Rattle.cuts.specs.Eligible.{cuts_side, partly, filled_so, cut_here, holds_some}
-use Rattle.cuts.specs.Numbers.{number, rounded_numbers, signed, net}
+use Rattle.market.specs.Signed.{signed}
+use Rattle.cuts.specs.Numbers.{number, rounded_numbers, net}
 use Rattle.cuts.specs.Stages.{held, last_step, next_turn, one_less, Cut, turns, stage_cut, open_cuts}
 use Rattle.cuts.specs.StageLaws.{OnlyCuts, Apart, Candidates}
 use Rattle.cuts.specs.Settled.{stage_of, two_stages}

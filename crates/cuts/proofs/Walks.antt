@@ -6,9 +6,10 @@ use Rattle.market.specs.declared.records.Side.TheVariants.{Sell, Buy}
 use Rattle.std.proofs.lemmas.List.{drop_more, drop_all, take_more_set, append_assoc, append-nil, take_all}
 use Rattle.std.proofs.lemmas.Bool.{cond-true, cond-false, cond_both}
 use Rattle.cuts.specs.declared.gather.Stage.{Stage}
-use Rattle.cuts.specs.Kinds.{Kind}
+use Rattle.market.specs.Kinds.{Kind}
 use Rattle.cuts.specs.Rounding.{nearest}
-use Rattle.cuts.specs.Numbers.{number, rounded_numbers, signed, net}
+use Rattle.market.specs.Signed.{signed}
+use Rattle.cuts.specs.Numbers.{number, rounded_numbers, net}
 use Rattle.cuts.specs.Eligible.{eligible, candidates}
 use Rattle.cuts.specs.Ordered.{placed}
 

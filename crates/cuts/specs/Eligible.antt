@@ -6,7 +6,7 @@ use Rattle.cuts.specs.declared.gather.Filled.{Filled}
 use Rattle.cuts.specs.declared.gather.Filled.TheVariants.{Partly, Full}
 use Rattle.cuts.specs.declared.gather.Stage.{Stage}
 use Rattle.cuts.specs.Rounding.{nearest}
-use Rattle.cuts.specs.Kinds.{Kind}
+use Rattle.market.specs.Kinds.{Kind}
 
 -- A positive gap cuts sells, a negative one buys, and none nobody.
 abbrev pub cuts_side : ℤ → Side → Bool

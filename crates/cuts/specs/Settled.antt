@@ -5,7 +5,8 @@ use Rattle.market.specs.declared.records.Block.{Block}
 use Rattle.cuts.specs.declared.gather.Filled.{Filled}
 use Rattle.cuts.specs.declared.gather.Filled.TheVariants.{Partly, Full}
 use Rattle.cuts.specs.declared.gather.Stage.{Stage}
-use Rattle.cuts.specs.Kinds.{Kind, orders, blocks, order_stands, block_stands}
+use Rattle.market.specs.Kinds.{Kind, orders, blocks}
+use Rattle.cuts.specs.Kinds.{order_stands, block_stands}
 use Rattle.cuts.specs.Ranks.{order_before, block_before}
 use Rattle.cuts.specs.Ordered.{ranked}
 use Rattle.cuts.specs.Eligible.{candidates}

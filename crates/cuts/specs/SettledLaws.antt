@@ -7,9 +7,10 @@ use Rattle.market.specs.declared.records.Block.{Block}
 use Rattle.cuts.specs.declared.gather.Filled.{Filled}
 use Rattle.cuts.specs.declared.gather.Filled.TheVariants.{Partly, Full}
 use Rattle.cuts.specs.Rounding.{nearest}
-use Rattle.cuts.specs.Kinds.{Kind, orders, blocks}
+use Rattle.market.specs.Kinds.{Kind, orders, blocks}
 use Rattle.cuts.specs.Eligible.{cut_here}
-use Rattle.cuts.specs.Numbers.{rounded_numbers, signed}
+use Rattle.market.specs.Signed.{signed}
+use Rattle.cuts.specs.Numbers.{rounded_numbers}
 use Rattle.cuts.specs.Stages.{held, open_cuts}
 use Rattle.cuts.specs.Settled.{order_places, block_places, stage_of, gap_of, settled_orders, settled_blocks, remainder_of}
 

@@ -1,24 +1,9 @@
 ghost use Rattle.std.specs.Prelude.{◌≡◌, ℕ};
-ghost use Rattle.cuts.specs.Kinds.{Kind, orders, blocks, order_stands, block_stands, price_key};
+ghost use Rattle.cuts.specs.Kinds.{order_stands, block_stands, price_key};
 
 use crate::candidates::{BlockCandidate, OrderCandidate};
+use market::entry::Entry;
 use market::records::{Block, Order, Side};
-
-/// An entry of a book.
-pub trait Entry {
-    ghost kind: { Kind Self };
-
-    fn side(&self) -> Side
-        ensures { result ≡ kind.side self.now };
-
-    /// Whether the entry is of an interval.
-    fn covers(&self, interval: u32) -> bool
-        ensures { result ≡ kind.covers self.now interval };
-
-    /// Its quantity in steps.
-    fn quantity(&self) -> i32
-        ensures { result ≡ kind.quantity self.now };
-}
 
 /// An entry that can be a candidate of a stage of cuts.
 pub trait Stands<C>: Entry {
@@ -27,38 +12,6 @@ pub trait Stands<C>: Entry {
     /// The candidate with that many rounded steps, at that place of the book.
     fn candidate(&self, steps: u32, place: usize) -> C
         ensures { result ≡ stands self.now steps place };
-}
-
-impl Entry for Order {
-    ghost kind = { orders };
-
-    fn side(&self) -> Side {
-        self.side
-    }
-
-    fn covers(&self, interval: u32) -> bool {
-        self.interval as i64 == interval as i64
-    }
-
-    fn quantity(&self) -> i32 {
-        self.quantity
-    }
-}
-
-impl Entry for Block {
-    ghost kind = { blocks };
-
-    fn side(&self) -> Side {
-        self.side
-    }
-
-    fn covers(&self, interval: u32) -> bool {
-        self.first as i64 <= interval as i64 && interval as i64 <= self.last as i64
-    }
-
-    fn quantity(&self) -> i32 {
-        self.quantity
-    }
 }
 
 // The limit as it ranks, the lower first: a sell's as it is, a buy's negated.

@@ -1,4 +1,5 @@
-ghost use Rattle.cuts.specs.Kinds.{orders, blocks, order_stands, block_stands};
+ghost use Rattle.market.specs.Kinds.{orders, blocks};
+ghost use Rattle.cuts.specs.Kinds.{order_stands, block_stands};
 ghost use Rattle.cuts.specs.RankLaws.{OrdersRank, BlocksRank, Nobody, Worked};
 
 /// The laws of the lists in rank order, that nobody is cut without a gap, and two worked cases of open cuts.

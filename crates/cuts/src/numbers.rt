@@ -1,8 +1,9 @@
 // The numbers of an interval, one for each entry of a kind.
 ghost use Rattle.std.specs.Prelude.{◌≡◌, ℕ, ◌*◌, ◌≤◌, length};
-ghost use Rattle.cuts.specs.Numbers.{number, rounded_numbers, signed, net, Within};
+ghost use Rattle.market.specs.Signed.{signed, Within};
+ghost use Rattle.cuts.specs.Numbers.{number, rounded_numbers, net};
 
-use crate::entries::Entry;
+use market::entry::Entry;
 use crate::rounding::nearest;
 use market::records::Side;
 

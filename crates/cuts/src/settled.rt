@@ -1,7 +1,7 @@
 // From a book, its fills, an interval and R to the settled numbers.
 ghost use Rattle.std.specs.Prelude.{◌≡◌, ℕ, ◌+◌, ◌≤◌, true, ◌&&◌, ◌++◌, length, take, drop, ℤ, if◌then◌else◌, Some, None};
 ghost use Rattle.cuts.specs.Numbers.{rounded_numbers};
-ghost use Rattle.cuts.specs.Kinds.{orders as orders_kind, blocks as blocks_kind};
+ghost use Rattle.market.specs.Kinds.{orders as orders_kind, blocks as blocks_kind};
 ghost use Rattle.cuts.specs.Stages.{last_step, stage_cut};
 ghost use Rattle.cuts.specs.SettledLaws.{Settles};
 ghost use Rattle.cuts.specs.Settled.{ranked_places, stage_of, two_stages, balance, gap_of, orders_cut, blocks_cut, settled_numbers, remainder_of, sizes_fit, lists_fit, Sizes};

@@ -19,7 +19,8 @@ use Rattle.engine.specs.declared.book.Passed.{Passed}
 use Rattle.engine.specs.declared.refusal.Refusal.{Refusal}
 use Rattle.engine.specs.declared.refusal.Refusal.TheVariants.{Market, NotUnsettled}
 use Rattle.engine.specs.Days.{record_of, conditions_of}
-use Rattle.engine.specs.Marks.{tests, is_unsettled}
+use Rattle.market.specs.First.{tests}
+use Rattle.engine.specs.Marks.{is_unsettled}
 use Rattle.engine.specs.Settling.{Lengths, holds, ready, postings, steps, sheet_after, checks}
 
 -- a table of tests that refuses nothing: each test passes

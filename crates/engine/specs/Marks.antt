@@ -5,6 +5,7 @@ use Rattle.market.specs.declared.records.Mark.{Mark}
 use Rattle.market.specs.declared.records.Mark.TheVariants.{Unsettled, Out, Noted, Closed}
 use Rattle.market.specs.declared.refusal.Refusal.TheVariants.{NoInterval}
 use Rattle.market.specs.Bounds.{same, in_day}
+use Rattle.market.specs.First.{tests}
 use Rattle.engine.specs.declared.day.Day.{Day}
 use Rattle.engine.specs.declared.refusal.Refusal.{Refusal}
 use Rattle.engine.specs.declared.refusal.Refusal.TheVariants.{Market, NotOut, NotNoted}
@@ -44,11 +45,6 @@ shows_out d i steps = in_day d.count i && (is_out (record_of d i).mark && same (
 -- the day d with the interval i marked m is the day d'
 abbrev pub Marked : Day → ℤ → Mark → Day → Type 0
 Marked d i m d' = Recorded d (place_of i) (with_mark (record_of d i) m) d'
-
--- a table of tests in their order: the first that fails refuses
-abbrev pub tests : List (Bool × Refusal) → Result Unit Refusal
-tests [] = Ok tt
-tests ((passes, refusal) ∷ more) = cond passes (tests more) (Err refusal)
 
 -- 22: what noting answers
 abbrev pub note_answer : Day → Remainder → Result Unit Refusal

@@ -20,7 +20,8 @@ use Rattle.engine.specs.declared.refusal.Refusal.{Refusal}
 use Rattle.engine.specs.declared.refusal.Refusal.TheVariants.{Market, Posting as UnpostedCall, NotUnsettled}
 use Rattle.engine.specs.declared.remainder.Remainder.{Remainder}
 use Rattle.engine.specs.Days.{Recorded, place_of, record_of, with_state, conditions_of}
-use Rattle.engine.specs.Marks.{tests, is_unsettled, Handed}
+use Rattle.market.specs.First.{tests, then}
+use Rattle.engine.specs.Marks.{is_unsettled, Handed}
 
 -- a refusal of settling over slices, as one of the call's
 abbrev pub lifted_by : SettleRefused → Refusal
@@ -31,11 +32,6 @@ lifted_by (Unposted e) = UnpostedCall e
 abbrev pub lifted : Result ℤ SettleRefused → Result ℤ Refusal
 lifted (Ok steps) = Ok steps
 lifted (Err e) = Err (lifted_by e)
-
--- one check, and then the next: the first refusal stands
-abbrev pub then : Result Unit Refusal → Result ℤ Refusal → Result ℤ Refusal
-then (Ok _) next = next
-then (Err e) next = Err e
 
 -- the lengths of the memory that settling writes: the sheet and the working slices
 pub record Lengths : Type 0 where

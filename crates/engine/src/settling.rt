@@ -7,9 +7,9 @@ use super::day::Day;
 use super::refusal::Refusal;
 use super::remainder::Remainder;
 use cuts::candidates::{BlockCandidate, OrderCandidate};
-use entries::{Book, Fills, SettleRefused, settle_interval};
+use entries::{SettleRefused, settle_interval};
 use ledger::Ledger;
-use market::records::Mark;
+use market::records::{Book, Fills, Mark};
 use market::refusal::Refusal as MarketRefusal;
 
 fn lift(refused: SettleRefused) -> Refusal

@@ -10,8 +10,9 @@ use Rattle.market.specs.declared.records.Order.{Order}
 use Rattle.market.specs.declared.records.Block.{Block}
 use Rattle.market.specs.Blank.{no_order, no_block}
 use Rattle.verdict.proofs.Ring.{add-mul, mul-add, neg-mul, mul-neg}
-use Rattle.cuts.specs.Kinds.{orders, blocks}
-use Rattle.cuts.specs.Numbers.{signed, net}
+use Rattle.market.specs.Kinds.{orders, blocks}
+use Rattle.market.specs.Signed.{signed}
+use Rattle.cuts.specs.Numbers.{net}
 use Rattle.cuts.specs.Settled.{balance}
 use Rattle.posting.specs.Postings.{one, amounts}
 use Rattle.entries.specs.declared.book.Party.{Party}

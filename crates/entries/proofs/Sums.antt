@@ -3,8 +3,9 @@ use Rattle.std.proofs.Common.{◌≡◌, ℕ, zero, suc, ◌+◌, ◌<◌, List,
 use Rattle.std.proofs.lemmas.Int.{ints}
 use Rattle.posting.specs.declared.posting.Posting.{Posting}
 use Rattle.posting.specs.Postings.{one, listed, amounts}
-use Rattle.cuts.specs.Kinds.{Kind}
-use Rattle.cuts.specs.Numbers.{signed, net}
+use Rattle.market.specs.Kinds.{Kind}
+use Rattle.market.specs.Signed.{signed}
+use Rattle.cuts.specs.Numbers.{net}
 
 -- the sum of f over the first n places
 abbrev pub upto : (ℕ → ℤ) → ℕ → ℤ

@@ -3,7 +3,7 @@ use Rattle.std.specs.Prelude.{ℕ, suc, ◌+◌, ◌-◌, cond, List, length, �
 use Rattle.market.specs.declared.records.Order.{Order}
 use Rattle.market.specs.declared.records.Block.{Block}
 use Rattle.market.specs.Blank.{no_order, no_block}
-use Rattle.cuts.specs.Numbers.{signed}
+use Rattle.market.specs.Signed.{signed}
 use Rattle.posting.specs.declared.posting.Posting.{Posting}
 use Rattle.posting.specs.Postings.{listed}
 use Rattle.entries.specs.declared.book.Party.{Party}

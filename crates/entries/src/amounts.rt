@@ -1,6 +1,6 @@
 // The amounts of an interval, in grains.
 ghost use Rattle.std.specs.Prelude.{◌≡◌, ◌≤◌, neg_ℤ, unsigned_abs};
-ghost use Rattle.cuts.specs.Numbers.{signed as signed_by};
+ghost use Rattle.market.specs.Signed.{signed as signed_by};
 ghost use Rattle.entries.specs.Amounts.{conditions, worth as worth_of, posting_of, exchange as exchange_of};
 
 use super::book::Party;

@@ -2,7 +2,7 @@
 ghost use Rattle.std.specs.Prelude.{◌≡◌, ◌+◌, length};
 ghost use Rattle.entries.specs.Settles.{interval_ok, few, work_ok, room_ok, settle_checks};
 
-use super::book::{Book, Fills};
+use market::records::{Book, Fills};
 use market::refusal::Refusal;
 use verdict::check_paper;
 

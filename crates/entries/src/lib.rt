@@ -11,7 +11,6 @@ mod settling;
 mod sheet;
 mod terms;
 
-pub use book::{Book, Fills};
 pub use laws::laws_stand;
 pub use refused::SettleRefused;
 pub use settling::settle_interval;

@@ -3,8 +3,9 @@ ghost use Rattle.std.specs.Prelude.{◌≡◌, suc, ◌+◌, ◌≤◌, length};
 ghost use Rattle.entries.specs.Amounts.{conditions, settle_slot};
 
 use super::amounts::{exchange, posting_of};
-use super::book::Book;
+use super::book::party;
 use super::terms::Terms;
+use market::records::Book;
 use posting::{Posting, Source};
 
 /// The postings of settling: by entry, and last minus R's amount to account 0.
@@ -27,7 +28,7 @@ impl<'a, 'b> Source for Settling<'a, 'b> {
 
     fn at(&self, place: usize) -> Option<Posting> {
         if place < self.book.orders.len() + self.book.blocks.len() {
-            posting_of(self.terms, self.book.party(place), self.numbers[place])
+            posting_of(self.terms, party(self.book, place), self.numbers[place])
         } else {
             Some(exchange(self.terms))
         }

@@ -7,7 +7,6 @@ ghost use Rattle.entries.specs.Amounts.{conditions, settle_postings};
 ghost use Rattle.entries.specs.Sheet.{sheet_with, Laid};
 ghost use Rattle.entries.specs.Settles.{Ready, SizedFor, settle_checks, settle_list, settle_steps, settle_sheet, with_steps, checked, if_checked, Moved};
 
-use super::book::{Book, Fills};
 use super::checks::{Room, check_settling};
 use super::postings::Settling;
 use super::refused::SettleRefused;
@@ -16,6 +15,7 @@ use super::terms::Terms;
 use cuts::candidates::{BlockCandidate, OrderCandidate};
 use cuts::settled::settled_numbers;
 use ledger::Ledger;
+use market::records::{Book, Fills};
 use posting::post_all;
 
 // The settled numbers of the entries, and the remainder.

@@ -2,7 +2,8 @@
 ghost use Rattle.std.specs.Prelude.{◌≡◌, ◌+◌, ◌-◌, ◌<◌, ◌≤◌, length, if◌then◌else◌, slice_set};
 ghost use Rattle.entries.specs.Sheet.{of_interval, place_of, sheet_with, Laid, Fits};
 
-use super::book::Book;
+use super::book::is_of;
+use market::records::Book;
 
 /// Where the sheet of a book with so many orders has its numbers of an interval.
 #[derive(Clone, Copy)]
@@ -39,7 +40,7 @@ fn put_entry(book: Book<'_>, layout: Layout, place: usize, number: u32, sheet: &
     requires { (place < length book.orders.now + length book.blocks.now) × (Fits layout.orders layout.intervals layout.interval place (length sheet.old)) }
     ensures { sheet.new ≡ (if of_interval book.entry.orders.now book.entry.blocks.now layout.interval place then slice_set sheet.old (place_of layout.orders layout.intervals layout.interval place) number else sheet.old) }
 {
-    if book.is_of(place, layout.interval) {
+    if is_of(book, place, layout.interval) {
         layout.put(sheet, place, number);
     }
 }

@@ -1,21 +1,27 @@
 // The bounds of entry.
 ghost use Rattle.std.specs.Prelude.{◌≡◌, pos, ◌-ℤ◌, ◌*ℤ◌};
 ghost use Rattle.market.specs.Bounds.{minutes_ok, count_ok, in_day, price_ok, net_ok, quantity_ok, account_ok, least_ok, span_ok};
-ghost use Rattle.market.specs.Bounds.{start_bounds, terms_bounds, order_bounds, share_table, block_bounds};
-ghost use Rattle.market.specs.First.{tests};
+ghost use Rattle.market.specs.Bounds.{start_bounds, terms_bounds};
 
-use super::records::{Block, Order};
 use super::refusal::Refusal;
 
-const MOST_INTERVALS: i32 = 100;
+/// The most intervals that a day can have.
+pub const MOST_INTERVALS: usize = 100;
+
+/// The most orders that a book can have.
+pub const MOST_ORDERS: usize = 1024;
+
+/// The most blocks that a book can have.
+pub const MOST_BLOCKS: usize = 64;
+
+/// A step of 0.1 MW, in thousandths of a MW.
+pub const THOUSANDTHS_PER_STEP: i64 = 100;
 
 const LOWEST_PRICE: i32 = -50_000;
 
 const HIGHEST_PRICE: i32 = 400_000;
 
 const MOST_NET: i32 = 1_100_000_000;
-
-const THOUSANDTHS_PER_STEP: i64 = 100;
 
 const MOST_STEPS: i32 = 10_000;
 
@@ -26,25 +32,25 @@ const LAST_ACCOUNT: i32 = 65_535;
 fn is_minutes(minutes: i32) -> bool
     ensures { result ≡ minutes_ok minutes }
 {
-    minutes == 15 || minutes == 30 || minutes == 60
+    matches!(minutes, 15 | 30 | 60)
 }
 
 fn is_count(count: i32) -> bool
     ensures { result ≡ count_ok count }
 {
-    1 <= count && count <= MOST_INTERVALS
+    is_in_day(MOST_INTERVALS, count)
 }
 
-fn is_in_day(intervals: usize, interval: i32) -> bool
+pub(crate) fn is_in_day(intervals: usize, interval: i32) -> bool
     ensures { result ≡ in_day intervals interval }
 {
     1 <= interval && interval as usize <= intervals
 }
 
-fn is_price(price: i32) -> bool
+pub(crate) fn is_price(price: i32) -> bool
     ensures { result ≡ price_ok price }
 {
-    LOWEST_PRICE <= price && price <= HIGHEST_PRICE
+    (LOWEST_PRICE..=HIGHEST_PRICE).contains(&price)
 }
 
 // How far the rounded net position, in thousandths, lies above the net position.
@@ -58,28 +64,30 @@ fn is_net(net: i32, rounded: i32) -> bool
     ensures { result ≡ net_ok net rounded }
 {
     let off = rounding(net, rounded);
-    -MOST_NET <= net && net <= MOST_NET && -THOUSANDTHS_PER_STEP < off && off < THOUSANDTHS_PER_STEP
+    (-MOST_NET..=MOST_NET).contains(&net)
+        && -THOUSANDTHS_PER_STEP < off
+        && off < THOUSANDTHS_PER_STEP
 }
 
-fn is_quantity(steps: i32) -> bool
+pub(crate) fn is_quantity(steps: i32) -> bool
     ensures { result ≡ quantity_ok steps }
 {
-    1 <= steps && steps <= MOST_STEPS
+    (1..=MOST_STEPS).contains(&steps)
 }
 
-fn is_account(account: i32) -> bool
+pub(crate) fn is_account(account: i32) -> bool
     ensures { result ≡ account_ok account }
 {
-    FIRST_ACCOUNT <= account && account <= LAST_ACCOUNT
+    (FIRST_ACCOUNT..=LAST_ACCOUNT).contains(&account)
 }
 
-fn is_percentage(least: i32) -> bool
+pub(crate) fn is_percentage(least: i32) -> bool
     ensures { result ≡ least_ok least }
 {
-    1 <= least && least <= 100
+    (1..=100).contains(&least)
 }
 
-fn is_span(intervals: usize, first: i32, last: i32) -> bool
+pub(crate) fn is_span(intervals: usize, first: i32, last: i32) -> bool
     ensures { result ≡ span_ok intervals first last }
 {
     is_in_day(intervals, first) && is_in_day(intervals, last) && first <= last
@@ -118,56 +126,4 @@ pub fn check_terms(
         return Err(Refusal::NetPosition);
     }
     Ok(())
-}
-
-impl Order {
-    /// The bounds of entry in a day of so many intervals: 3 for the interval, 4 for the limit, 7 for the quantity, 8 for the account.
-    pub fn check_bounds(&self, intervals: usize) -> Result<(), Refusal>
-        ensures { result ≡ order_bounds intervals self.now }
-    {
-        if !is_in_day(intervals, self.interval) {
-            return Err(Refusal::NoInterval);
-        }
-        if !is_price(self.limit) {
-            return Err(Refusal::Price);
-        }
-        if !is_quantity(self.quantity) {
-            return Err(Refusal::Quantity);
-        }
-        if !is_account(self.account) {
-            return Err(Refusal::Account);
-        }
-        Ok(())
-    }
-}
-
-impl Block {
-    /// The bounds of entry in a day of so many intervals: 3 for the intervals, 4 for the limit, 7 for the quantity, 10 for the
-    /// least percentage, 8 for the account.
-    pub fn check_bounds(&self, intervals: usize) -> Result<(), Refusal>
-        ensures { result ≡ block_bounds intervals self.now }
-    {
-        if !is_span(intervals, self.first, self.last) {
-            return Err(Refusal::NoInterval);
-        }
-        if !is_price(self.limit) {
-            return Err(Refusal::Price);
-        }
-        if !is_quantity(self.quantity) {
-            return Err(Refusal::Quantity);
-        }
-        self.check_share()
-    }
-
-    fn check_share(&self) -> Result<(), Refusal>
-        ensures { result ≡ tests (share_table self.now) }
-    {
-        if !is_percentage(self.least) {
-            return Err(Refusal::Percentage);
-        }
-        if !is_account(self.account) {
-            return Err(Refusal::Account);
-        }
-        Ok(())
-    }
 }

@@ -2,6 +2,6 @@
 #![tactic(auto)]
 
 pub mod bounds;
+pub mod entry;
 pub mod records;
 pub mod refusal;
-pub mod words;

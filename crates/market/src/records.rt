@@ -1,4 +1,6 @@
 // The records that a day is made of. They are plain: the caller's memory can hold any numbers, and judging looks at it.
+ghost use Rattle.std.specs.Prelude.{◌≡◌};
+ghost use Rattle.market.specs.Signed.{signed, Within};
 
 /// Which way an order or a block trades.
 #[derive(Clone, Copy, PartialEq, Eq, Debug)]
@@ -7,8 +9,21 @@ pub enum Side {
     Buy,
 }
 
+impl Side {
+    /// What an amount adds to sells less buys: plus for a sell, minus for a buy.
+    pub fn signed(self, amount: u32) -> i64
+        ensures is { result ≡ signed self amount }
+        ensures small { Within 4294967296 result }
+    {
+        match self {
+            Side::Sell => i64::from(amount),
+            Side::Buy => -i64::from(amount),
+        }
+    }
+}
+
 /// The market that a standard order comes from.
-#[derive(Clone, Copy, PartialEq, Eq, Debug)]
+#[derive(Clone, Copy, PartialEq, Eq, PartialOrd, Ord, Debug)]
 pub enum Market {
     Spot,
     Derivative,
@@ -67,4 +82,18 @@ pub struct Block {
     /// Seconds.
     pub stamp: i32,
     pub account: i32,
+}
+
+/// The orders and the blocks of a book, in the caller's memory.
+#[derive(Clone, Copy)]
+pub struct Book<'a> {
+    pub orders: &'a [Order],
+    pub blocks: &'a [Block],
+}
+
+/// A paper on a book: a fill for each order, and one for each block, in thousandths of a MW.
+#[derive(Clone, Copy)]
+pub struct Fills<'a> {
+    pub orders: &'a [u32],
+    pub blocks: &'a [u32],
 }

@@ -1,27 +1,46 @@
-// Why a call refuses, and where.
+// Why a call refuses, and where, in numbers and in plain words.
 ghost use Rattle.std.specs.Prelude.{◌≡◌};
 ghost use Rattle.market.specs.Refusals.{number_of, place_of};
 
+use thiserror::Error;
+
 /// The refusals of the book and of its verdict. An entry is an order's or a block's number: orders count from 1, and blocks
 /// carry on after the last order.
-#[derive(Clone, Copy, PartialEq, Eq, Debug)]
+#[derive(Clone, Copy, PartialEq, Eq, Debug, Error)]
 pub enum Refusal {
+    #[error("{}: an interval lasts 15, 30 or 60 minutes", self.number())]
     Minutes,
+    #[error("{}: a day has 1 to 100 intervals", self.number())]
     Count,
+    #[error("{}: the day does not have that interval", self.number())]
     NoInterval,
+    #[error("{}: a price is from -50000 to 400000 cents per MWh", self.number())]
     Price,
+    #[error("{}: the net position is out of range, or its rounding is a step or more away", self.number())]
     NetPosition,
+    #[error("{}: there is no room for another entry", self.number())]
     Full,
+    #[error("{}: a quantity is from 1 to 10000 steps", self.number())]
     Quantity,
+    #[error("{}: an account is from 2 to 65535", self.number())]
     Account,
+    #[error("{}: a least percentage is from 1 to 100", self.number())]
     Percentage,
+    #[error("{}: a memory is too short, or there is not one fill for each entry", self.number())]
     Short,
+    #[error("{} at entry {entry}: the record is outside the bounds of entry", self.number())]
     OutsideBounds { entry: u32 },
+    #[error("{} at entry {entry}: the fill exceeds the quantity", self.number())]
     OverQuantity { entry: u32 },
+    #[error("{} at entry {entry}: the limit is worse than the price, so nothing of it may be filled", self.number())]
     ShouldBeEmpty { entry: u32 },
+    #[error("{} at entry {entry}: the limit is better than the price, so all of it must be filled", self.number())]
     ShouldBeFull { entry: u32 },
+    #[error("{} at entry {entry}: the block is filled below its least percentage", self.number())]
     BelowLeast { entry: u32 },
+    #[error("{} at entry {entry}: the prices of its intervals do not reach the block's limit", self.number())]
     BlockPrice { entry: u32 },
+    #[error("{} at interval {interval}: sales less purchases are not the net position", self.number())]
     Unbalanced { interval: u32 },
 }
 
@@ -41,13 +60,13 @@ impl Refusal {
             Refusal::Account => 8,
             Refusal::Percentage => 10,
             Refusal::Short => 11,
-            Refusal::OutsideBounds { entry: _ } => 12,
-            Refusal::OverQuantity { entry: _ } => 13,
-            Refusal::ShouldBeEmpty { entry: _ } => 14,
-            Refusal::ShouldBeFull { entry: _ } => 15,
-            Refusal::BelowLeast { entry: _ } => 16,
-            Refusal::BlockPrice { entry: _ } => 17,
-            Refusal::Unbalanced { interval: _ } => 18,
+            Refusal::OutsideBounds { .. } => 12,
+            Refusal::OverQuantity { .. } => 13,
+            Refusal::ShouldBeEmpty { .. } => 14,
+            Refusal::ShouldBeFull { .. } => 15,
+            Refusal::BelowLeast { .. } => 16,
+            Refusal::BlockPrice { .. } => 17,
+            Refusal::Unbalanced { .. } => 18,
         }
     }
 

@@ -17,8 +17,10 @@ use Rattle.engine.specs.declared.refusal.Refusal.{Refusal}
 use Rattle.engine.specs.declared.refusal.Refusal.TheVariants.{Market, NotUnsettled, NotOut}
 use Rattle.engine.specs.declared.remainder.Remainder.{Remainder}
 use Rattle.engine.specs.Days.{place_of, record_of, with_state}
-use Rattle.engine.specs.Marks.{is_out, is_unsettled, note_answer, shows_out, tests}
-use Rattle.engine.specs.Settling.{Lengths, Settling, then, ready, holds, steps}
+use Rattle.market.specs.First.{tests}
+use Rattle.engine.specs.Marks.{is_out, is_unsettled, note_answer, shows_out}
+use Rattle.market.specs.First.{then}
+use Rattle.engine.specs.Settling.{Lengths, Settling, ready, holds, steps}
 use Rattle.engine.proofs.Settlings.{tests_out, place_small}
 
 -- an answer that is no refusal: the check before it refused nothing

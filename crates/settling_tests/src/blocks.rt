@@ -4,10 +4,10 @@ use engine::book::calls::start;
 use engine::book::{Pass, Passed};
 use engine::day::Day;
 use engine::refusal::Refusal;
-use entries::{Book, Fills};
+
 use ledger::{Account, Ledger};
 use ledgers::Table;
-use market::records::{Block, Side};
+use market::records::{Block, Book, Fills, Side};
 use std::test::Fail;
 
 const BLOCK: Block = Block {

@@ -5,9 +5,9 @@ use engine::book::{Closed, Open, Pass, Passed};
 use engine::day::Day;
 use engine::refusal::Refusal;
 use engine::remainder::Returned;
-use entries::{Book, Fills};
+
 use ledger::Ledger;
-use market::records::{Market, Order, Side};
+use market::records::{Book, Fills, Market, Order, Side};
 use market::refusal::Refusal as MarketRefusal;
 use std::test::Fail;
 

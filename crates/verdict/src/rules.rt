@@ -5,6 +5,7 @@ ghost use Rattle.verdict.specs.Rules.{within, full, quantity_rule, price_at, mis
 ghost use Rattle.verdict.specs.Rules.{enough, price_sum, block_prices, span as span_of, pays, block_price};
 
 use super::walk::{Check, Rule};
+use market::entry::Entry;
 use market::records::{Block, Interval, Order, Side};
 use market::refusal::Refusal;
 

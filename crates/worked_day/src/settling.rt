@@ -5,10 +5,9 @@ use cuts::candidates::{BlockCandidate, OrderCandidate};
 use engine::book::Passed;
 use engine::day::Day;
 use engine::remainder::Returned;
-use entries::{Book, Fills};
 use ledger::{Accounts, Ledger};
 use ledgers::{Joined, Operator, Table};
-use market::records::Order;
+use market::records::{Book, Fills, Order};
 
 fn tell<L: Accounts>(rt: &HostRuntime, day: &Day, ledger: &L) -> anyhow::Result<()> {
     let open = day.open_worth();

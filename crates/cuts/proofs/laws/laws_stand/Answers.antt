@@ -1,5 +1,6 @@
 use Rattle.std.proofs.Common.{refl}
-use Rattle.cuts.specs.Kinds.{orders, blocks, order_stands, block_stands}
+use Rattle.market.specs.Kinds.{orders, blocks}
+use Rattle.cuts.specs.Kinds.{order_stands, block_stands}
 use Rattle.cuts.specs.Ranks.{order_keys, block_keys}
 use Rattle.cuts.proofs.Ranking.{ranks_by, nobody}
 use Rattle.cuts.proofs.laws.laws_stand.Goals as goal

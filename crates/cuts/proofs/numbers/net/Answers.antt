@@ -1,6 +1,6 @@
 use Rattle.std.proofs.Common.{◌≡◌, get_or, ap, ◌∙◌, arith}
 use borrow.Author.Differences.{ints}
-use Rattle.cuts.specs.Numbers.{signed}
+use Rattle.market.specs.Signed.{signed}
 use Rattle.cuts.proofs.Walks.{net_more, net_all}
 use Rattle.cuts.proofs.numbers.net.Goals as goal
 

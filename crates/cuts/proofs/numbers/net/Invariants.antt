@@ -1,5 +1,6 @@
 use Rattle.std.proofs.Common.{◌≡◌, ◌*◌, drop, ◌+ℤ◌}
-use Rattle.cuts.specs.Numbers.{net, Within}
+use Rattle.market.specs.Signed.{Within}
+use Rattle.cuts.specs.Numbers.{net}
 use Rattle.cuts.proofs.numbers.net.Given as goal
 
 abbrev pub invariant-loop-i : goal.invariant-loop-i

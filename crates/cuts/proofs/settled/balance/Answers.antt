@@ -1,6 +1,6 @@
 use Rattle.std.proofs.Common.{◌≡◌, ◌+◌, ◌-◌, length, take, drop, ap, ◌∙◌, arith}
 use borrow.Author.Differences.{ints}
-use Rattle.cuts.specs.Kinds.{orders, blocks}
+use Rattle.market.specs.Kinds.{orders, blocks}
 use Rattle.cuts.specs.Numbers.{net}
 use Rattle.cuts.proofs.settled.balance.Goals as goal
 

@@ -1,6 +1,6 @@
 use Rattle.std.proofs.Common.{◌+◌, length, drop, ◌∙◌, w32, w64, SFits, to_z, of_z, rules}
 use Rattle.std.proofs.lemmas.Int.{to_z-of_z}
-use Rattle.cuts.specs.Kinds.{orders, blocks}
+use Rattle.market.specs.Kinds.{orders, blocks}
 use Rattle.cuts.specs.Numbers.{rounded_numbers}
 use Rattle.cuts.specs.Settled.{gap_of}
 use Rattle.cuts.proofs.Cutting.{balance_is}

@@ -1,7 +1,7 @@
 use Rattle.std.proofs.Common.{◌≡◌, ◌+◌, ◌++◌, length, drop, sym, ap, ◌∙◌, ap₂, arith, w32, w64, SFits, to_z, of_z, rules}
 use Rattle.std.proofs.lemmas.List.{append_assoc}
 use Rattle.std.proofs.lemmas.Int.{to_z-of_z}
-use Rattle.cuts.specs.Kinds.{orders, blocks}
+use Rattle.market.specs.Kinds.{orders, blocks}
 use Rattle.cuts.specs.Numbers.{rounded_numbers}
 use Rattle.cuts.specs.Settled.{gap_of, orders_cut, blocks_cut, settled_orders, settled_blocks, settled_numbers, remainder_of, Sizes}
 use Rattle.cuts.proofs.Cutting.{balance_is, length-orders_cut, length-blocks_cut}

@@ -1,5 +1,5 @@
 use Rattle.std.proofs.Common.{◌+◌, ◌++◌, length, drop, ap, ◌∙◌, ap₂}
-use Rattle.cuts.specs.Kinds.{orders, blocks}
+use Rattle.market.specs.Kinds.{orders, blocks}
 use Rattle.cuts.proofs.Walks.{length-rounded}
 use Rattle.cuts.proofs.Parts.{both_written}
 use Rattle.cuts.proofs.settled.write_all.Goals as goal

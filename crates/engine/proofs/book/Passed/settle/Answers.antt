@@ -10,7 +10,8 @@ use Rattle.entries.specs.Amounts.{Conditions, worth, conditions}
 use Rattle.entries.specs.Settles.{settle_checks, settle_list, settle_steps, settle_sheet, with_steps, checked}
 use Rattle.engine.specs.declared.refusal.Refusal.{Refusal}
 use Rattle.engine.specs.Days.{place_of, record_of, with_state, conditions_of}
-use Rattle.engine.specs.Settling.{ready, lifted, then, lengths_of, postings, steps, checks}
+use Rattle.market.specs.First.{then}
+use Rattle.engine.specs.Settling.{ready, lifted, lengths_of, postings, steps, checks}
 use Rattle.engine.proofs.Settlings.{place_small, same_checks, same_postings, same_steps, same_sheet, ok_parts, err_keeps, ok_gives}
 use Rattle.engine.proofs.book.Passed.settle.Goals as goal
 
