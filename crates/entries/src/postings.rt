@@ -3,7 +3,7 @@ ghost use Rattle.std.specs.Prelude.{◌≡◌, suc, ◌+◌, ◌≤◌, length};
 ghost use Rattle.entries.specs.Amounts.{conditions, settle_slot};
 
 use super::amounts::{exchange, posting_of};
-use super::book::party;
+use super::book::party_at;
 use super::terms::Terms;
 use market::records::Book;
 use posting::{Posting, Source};
@@ -28,7 +28,7 @@ impl<'a, 'b> Source for Settling<'a, 'b> {
 
     fn at(&self, place: usize) -> Option<Posting> {
         if place < self.book.orders.len() + self.book.blocks.len() {
-            posting_of(self.terms, party(self.book, place), self.numbers[place])
+            posting_of(self.terms, party_at(self.book, place), self.numbers[place])
         } else {
             Some(exchange(self.terms))
         }
