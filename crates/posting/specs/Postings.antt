@@ -1,5 +1,6 @@
 -- Postings in order, all or none.
-use Rattle.std.specs.Prelude.{◌≡◌, ℕ, zero, suc, cond, List, [], ◌∷◌, ◌++◌, length, ℤ, pos, ◌+ℤ◌, neg_ℤ, ◌≤ℤ◌, Some, None, Ok, Err, Option, Result, nat_lt, slice_index_or}
+use Rattle.std.specs.Prelude.{◌≡◌, ℕ, zero, suc, cond, List, [], ◌∷◌, ◌++◌, length, ℤ, pos, ◌+ℤ◌, neg_ℤ, ◌≤ℤ◌, Some, None, Ok, Option, Result, nat_lt, slice_index_or}
+use Rattle.std.specs.Result.{result_and}
 use Rattle.ledger.specs.declared.account.Account.{Account}
 use Rattle.ledger.specs.declared.refusal.PostRefused.{PostRefused}
 use Rattle.ledger.specs.Model.{answer, posted, after, if_taken}
@@ -28,15 +29,10 @@ abbrev pub posted_all : List Account → List Posting → List Account
 posted_all m [] = m
 posted_all m (p ∷ ps) = posted_all (posted m p.account p.amount) ps
 
--- the first answer where it is a refusal, else the second
-abbrev pub then : Result (Unit {0}) PostRefused → Result (Unit {0}) PostRefused → Result (Unit {0}) PostRefused
-then (Ok _) rest = rest
-then (Err e) rest = Err e
-
 -- the answer to all the postings: the first refusal in their order
 abbrev pub answers : List Account → List Posting → Result (Unit {0}) PostRefused
 answers m [] = Ok tt
-answers m (p ∷ ps) = then (answer m p.account p.amount) (answers (posted m p.account p.amount) ps)
+answers m (p ∷ ps) = result_and (answer m p.account p.amount) (answers (posted m p.account p.amount) ps)
 
 -- what they leave: all of them, or none
 abbrev pub left : List Account → List Posting → List Account

@@ -1,6 +1,6 @@
 // Where postings are read from.
 ghost use Rattle.std.specs.Prelude.{◌≡◌, ℕ, length, Option};
-ghost use Rattle.posting.specs.declared.posting.Posting.{Posting as APosting};
+ghost use Rattle.posting.specs.declared.posting.Posting.{Posting};
 ghost use Rattle.posting.specs.Postings.{slot_of};
 
 use super::Posting;
@@ -11,7 +11,7 @@ pub trait Source {
     ghost many: { Self → ℕ };
 
     // What stands at a place, from 0.
-    ghost slot: { Self → ℕ → Option APosting };
+    ghost slot: { Self → ℕ → Option Posting };
 
     /// How many places there are.
     fn places(&self) -> usize
@@ -38,10 +38,6 @@ impl<'a> Source for Listed<'a> {
     }
 
     fn at(&self, place: usize) -> Option<Posting> {
-        if place < self.places() {
-            Some(self.postings[place])
-        } else {
-            None
-        }
+        self.postings.get(place).copied()
     }
 }
