@@ -2,7 +2,7 @@
 use Rattle.std.proofs.Common.{◌≡◌, ℕ, zero, suc, ◌+◌, ◌<◌, ◌≤◌, true, false, cond, List, [], ◌∷◌, ◌++◌, length, get_or, take, drop, set, ℤ, ◌+ℤ◌, Some, None, Ok, Err, min, sym, refl, ap, ◌∙◌, subst, ⊎_elim, arith}
 use Rattle.std.proofs.lemmas.Bool.{cases_lt}
 use Rattle.std.proofs.lemmas.Int.{ints}
-use Rattle.std.proofs.lemmas.List.{length-take, length-set, get_or-take, drop_more, drop_all, take_all, drop-set-lt, take-append-drop, take-take}
+use Rattle.std.proofs.lemmas.List.{length-take, length-set, get_or-take, drop_more, take_all, drop-set-lt, take-append-drop, take-take}
 use Rattle.ledger.specs.declared.account.Account.{Account}
 use Rattle.ledger.specs.Model.{within, moved, raised, find, answer, answer_at, after, blank}
 use Rattle.ledger.proofs.Posting.{by_test, after_taken}
@@ -56,16 +56,6 @@ module _ (few : List Account) (least i n : ℕ) (d : Account) (so_far : i + leng
   count_more h e =
       let s : length (run least (drop i few)) ≡ suc (length (run (suc (get_or few i d).number) (drop (i + 1) few))) = ap (λ l. length (run least l)) (drop_more few i d h) ∙ rw e in
       let t : length (run ((get_or few i d).number + 1) (drop (i + 1) few)) ≡ length (run (suc (get_or few i d).number) (drop (i + 1) few)) = ap (λ k. length (run k (drop (i + 1) few))) (omega arith) in
-      omega arith
-
-  pub count_stop : i < length few → lawful_from least (get_or few i d) ≡ false → i ≡ n
-  count_stop h e =
-      let s : length (run least (drop i few)) ≡ 0 = ap (λ l. length (run least l)) (drop_more few i d h) ∙ rw e in
-      omega arith
-
-  pub count_end : length few ≤ i → i ≡ n
-  count_end h =
-      let s : length (run least (drop i few)) ≡ 0 = ap (λ l. length (run least l)) (drop_all i few h) in
       omega arith
 
 pub open_most : (rs : List Account) → open_records rs ≤ most

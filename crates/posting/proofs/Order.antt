@@ -1,6 +1,6 @@
 -- Postings one after another, and taken back.
 use Rattle.std.proofs.Common.{◌≡◌, ℕ, zero, suc, ◌+◌, ◌-◌, ◌<◌, cond, ltb, List, [], ◌∷◌, ◌++◌, length, get_or, take, ◌+ℤ◌, neg_ℤ, Some, None, Ok, Err, Option, Result, sym, refl, ap, ◌∙◌, subst, ⊎_elim, add-zero, add-suc, add-one, arith, ltb-false, ltb-true}
-use Rattle.std.specs.Result.{result_and}
+use Rattle.std.specs.Result.{OnErr, result_and}
 use Rattle.std.proofs.lemmas.Bool.{cases_eq}
 use Rattle.std.proofs.lemmas.Int.{ints}
 use Rattle.std.proofs.lemmas.List.{append-nil, append_assoc, take_more, take_all}
@@ -9,7 +9,7 @@ use Rattle.ledger.specs.declared.refusal.PostRefused.{PostRefused}
 use Rattle.ledger.specs.Model.{answer, posted, after, Lawful, total}
 use Rattle.ledger.proofs.Posting.{lawful-posted, taken_back, taken_small, total-posted, by_test}
 use Rattle.posting.specs.declared.posting.Posting.{Posting}
-use Rattle.posting.specs.Laws.{Stopped, Tells, Unmoved, Summed}
+use Rattle.posting.specs.Laws.{Stopped, Tells, Summed}
 use Rattle.posting.specs.Postings.{nothing, slot_of, one, listed, posted_all, answers, left, AllTaken, opposed, undone, SmallAt, amounts}
 
 pub posted_push : (m : List Account) (ps : List Posting) (p : Posting) → posted_all m (ps ++ p ∷ []) ≡ posted (posted_all m ps) p.account p.amount
@@ -173,7 +173,7 @@ pub listed_all : (ps : List Posting) → listed (slot_of ps) (length ps) ≡ ps
 listed_all ps = listed-take ps (length ps) ∙ take_all (length ps) ps (omega arith)
 
 -- what the answer to all tells
-pub unmoved_left : (r : Result (Unit {0}) PostRefused) (m m' : List Account) (ps : List Posting) → r ≡ answers m ps → m' ≡ left m ps → Unmoved r m m'
+pub unmoved_left : (r : Result (Unit {0}) PostRefused) (m m' : List Account) (ps : List Posting) → r ≡ answers m ps → m' ≡ left m ps → OnErr r (m' ≡ m)
 unmoved_left (Ok _) m m' ps e p = tt
 unmoved_left (Err w) m m' ps e p = p ∙ left_err m ps w (sym e)
 

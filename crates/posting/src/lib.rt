@@ -1,9 +1,9 @@
 // Postings in order, all or none, over any ledger.
 #![tactic(auto)]
 
-ghost use Rattle.std.specs.Prelude.{◌≡◌, ℕ, ◌<◌};
+ghost use Rattle.std.specs.Prelude.{◌≡◌, ℕ, ◌<◌, OnErr};
 ghost use Rattle.posting.specs.Postings.{one, listed, answers, left, undone, SmallAt};
-ghost use Rattle.posting.specs.Laws.{Unmoved, Summed};
+ghost use Rattle.posting.specs.Laws.{Summed};
 
 mod laws;
 mod posting;
@@ -19,7 +19,7 @@ pub fn post_all<L: Ledger, S: Source>(ledger: &mut L, source: &S) -> Result<(), 
     ensures answers { result ≡ answers (L.Accounts.model ledger.old) (listed (S.Source.slot source.now) (S.Source.many source.now)) }
     ensures posts { L.Accounts.model ledger.new ≡ left (L.Accounts.model ledger.old) (listed (S.Source.slot source.now) (S.Source.many source.now)) }
     ensures keeps { L.Ledger.kept ledger.old ledger.new }
-    ensures unmoved { Unmoved result (L.Accounts.model ledger.old) (L.Accounts.model ledger.new) }
+    ensures unmoved { OnErr result (L.Accounts.model ledger.new ≡ L.Accounts.model ledger.old) }
     ensures sums { Summed result (listed (S.Source.slot source.now) (S.Source.many source.now)) (L.Accounts.model ledger.old) (L.Accounts.model ledger.new) }
 {
     for place in 0..source.places() {
@@ -36,7 +36,7 @@ pub fn post_list<L: Ledger>(ledger: &mut L, postings: &[Posting]) -> Result<(), 
     ensures answers { result ≡ answers (L.Accounts.model ledger.old) postings.now }
     ensures posts { L.Accounts.model ledger.new ≡ left (L.Accounts.model ledger.old) postings.now }
     ensures keeps { L.Ledger.kept ledger.old ledger.new }
-    ensures unmoved { Unmoved result (L.Accounts.model ledger.old) (L.Accounts.model ledger.new) }
+    ensures unmoved { OnErr result (L.Accounts.model ledger.new ≡ L.Accounts.model ledger.old) }
     ensures sums { Summed result postings.now (L.Accounts.model ledger.old) (L.Accounts.model ledger.new) }
 {
     post_all(ledger, &Listed { postings })

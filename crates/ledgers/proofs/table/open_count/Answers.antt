@@ -1,7 +1,7 @@
-use Rattle.std.proofs.Common.{◌≡◌, length, take, get_or, true, false, ap, ◌∙◌, arith, rules}
+use Rattle.std.proofs.Common.{◌≡◌, length, take, get_or, true, ap, ◌∙◌, arith, rules}
 use Rattle.ledger.specs.Model.{blank}
 use Rattle.ledgers.specs.Table.{lawful_from, run, open_records}
-use Rattle.ledgers.proofs.Tables.{few_is, count_more, count_stop, count_end}
+use Rattle.ledgers.proofs.Tables.{few_is, count_more}
 use Rattle.ledgers.proofs.table.open_count.Goals as goal
 
 pub loop-open-init : goal.loop-open-init
@@ -17,18 +17,3 @@ loop-open-preserved c =
     let i = c.loop-open.«open» in
     let e : lawful_from c.loop-open.least (get_or few i blank) ≡ true = search rules in
     count_more few c.loop-open.least i (open_records rs) blank c.loop-open.invariant (omega arith) e
-
-pub returns-then-not-is_lawful-clause-counts : goal.returns-then-not-is_lawful-clause-counts
-returns-then-not-is_lawful-clause-counts c =
-    let rs = c.args.records.now in
-    let few = take c.min.result rs in
-    let i = c.loop-open.«open» in
-    let e : lawful_from c.loop-open.least (get_or few i blank) ≡ false = search rules in
-    count_stop few c.loop-open.least i (open_records rs) blank c.loop-open.invariant (omega arith) e
-
-pub returns-clause-counts : goal.returns-clause-counts
-returns-clause-counts c =
-    let rs = c.args.records.now in
-    let few = take c.min.result rs in
-    let e = count_end few c.loop-open.least c.loop-open.«open» (open_records rs) blank c.loop-open.invariant c.loop-open-test.false in
-    omega arith
