@@ -3,8 +3,9 @@ use Rattle.std.proofs.Common.{◌≡◌, ℕ, zero, suc, ◌+◌, ◌-◌, ◌<�
 use borrow.Author.Tests.{lt-leb}
 use Rattle.std.proofs.lemmas.List.{drop_more, drop_all}
 use Rattle.std.proofs.lemmas.Int.{ints}
+use Rattle.std.specs.Option.{option_map}
 use Rattle.ledger.specs.declared.account.Account.{Account}
-use Rattle.ledger.specs.Model.{numbers, blank, Sound, From, Lawful, find, moved, posted, number_at, balance_in, balance_of, total}
+use Rattle.ledger.specs.Model.{numbers, blank, Sound, From, Lawful, find, moved, posted, number_at, balance_of, total}
 
 pub number_in : (m : List Account) (p : ℕ) → 0 < p → p ≤ length m → number_at m p ≡ Some (get_or m (p - 1) blank).number
 number_in m p h k = rw (lt-ltb 0 p h, le-leb p (length m) k)
@@ -82,4 +83,4 @@ pub balance_there : (m : List Account) (i n : ℕ) → Lawful m → i < length m
 balance_there m i n f h e =
     let k : Some n ≡ Some (get_or m i blank).number = sym e ∙ number_there m i h in
     let s : n ≡ (get_or m i blank).number = cc in
-    ap (balance_of m) s ∙ ap balance_in (found_there m i blank f h)
+    ap (balance_of m) s ∙ ap (option_map (λ (a : Account). a.balance)) (found_there m i blank f h)

@@ -1,16 +1,16 @@
 -- Postings one after another, and taken back.
-use Rattle.std.proofs.Common.{◌≡◌, ℕ, zero, suc, ◌+◌, ◌-◌, ◌<◌, cond, ltb, List, [], ◌∷◌, ◌++◌, length, get_or, take, ◌+ℤ◌, neg_ℤ, Some, None, Ok, Err, Option, Result, sym, refl, ap, ◌∙◌, subst, ⊎_elim, add-zero, add-suc, add-one, arith, ltb-false, ltb-true}
+use Rattle.std.proofs.Common.{◌≡◌, ℕ, zero, suc, ◌+◌, ◌-◌, ◌<◌, List, [], ◌∷◌, ◌++◌, length, take, slice_get, ◌+ℤ◌, neg_ℤ, Some, None, Ok, Err, Option, Result, sym, refl, ap, ◌∙◌, subst, ⊎_elim, add-zero, add-suc, add-one, arith}
 use Rattle.std.specs.Result.{OnErr, result_and}
 use Rattle.std.proofs.lemmas.Bool.{cases_eq}
 use Rattle.std.proofs.lemmas.Int.{ints}
-use Rattle.std.proofs.lemmas.List.{append-nil, append_assoc, take_more, take_all}
+use Rattle.std.proofs.lemmas.List.{append-nil, append_assoc, take_all}
 use Rattle.ledger.specs.declared.account.Account.{Account}
 use Rattle.ledger.specs.declared.refusal.PostRefused.{PostRefused}
 use Rattle.ledger.specs.Model.{answer, posted, after, Lawful, total}
-use Rattle.ledger.proofs.Posting.{lawful-posted, taken_back, taken_small, total-posted, by_test}
+use Rattle.ledger.proofs.Posting.{lawful-posted, taken_back, taken_small, total-posted}
 use Rattle.posting.specs.declared.posting.Posting.{Posting}
 use Rattle.posting.specs.Laws.{Stopped, Tells, Summed}
-use Rattle.posting.specs.Postings.{nothing, slot_of, one, listed, posted_all, answers, left, AllTaken, opposed, undone, SmallAt, amounts}
+use Rattle.posting.specs.Postings.{one, listed, posted_all, answers, left, AllTaken, opposed, undone, SmallAt, amounts}
 
 pub posted_push : (m : List Account) (ps : List Posting) (p : Posting) → posted_all m (ps ++ p ∷ []) ≡ posted (posted_all m ps) p.account p.amount
 posted_push m [] p = refl
@@ -158,18 +158,17 @@ module _ (f : ℕ → Option Posting) where
       ap (λ j. undone l' f j) down ∙ ap (λ q. undone q f k) t' ∙ e
 
 -- the list by places is the list
-take_slot : (ps : List Posting) (n : ℕ) → take (suc n) ps ≡ take n ps ++ one (slot_of ps n)
-take_slot ps n =
-    let one_more : suc n ≡ n + 1 = omega arith in
-    by_test (ltb n (length ps)) (λ b. take (suc n) ps ≡ take n ps ++ one (cond b (Some (get_or ps n nothing)) None))
-    (λ e. ap (λ k. take k ps) one_more ∙ take_more ps n nothing (ltb-true n (length ps) e))
-    (λ e. let le = ltb-false n (length ps) e in take_all (suc n) ps (omega arith) ∙ sym (take_all n ps le) ∙ sym (append-nil (take n ps)))
+take_slot : (ps : List Posting) (n : ℕ) → take (suc n) ps ≡ take n ps ++ one (slice_get ps n)
+take_slot [] zero = refl
+take_slot [] (suc n) = refl
+take_slot (p ∷ ps) zero = refl
+take_slot (p ∷ ps) (suc n) = ap (λ l. p ∷ l) (take_slot ps n)
 
-listed-take : (ps : List Posting) (n : ℕ) → listed (slot_of ps) n ≡ take n ps
+listed-take : (ps : List Posting) (n : ℕ) → listed (slice_get ps) n ≡ take n ps
 listed-take ps zero = refl
-listed-take ps (suc n) = ap (λ l. l ++ one (slot_of ps n)) (listed-take ps n) ∙ sym (take_slot ps n)
+listed-take ps (suc n) = ap (λ l. l ++ one (slice_get ps n)) (listed-take ps n) ∙ sym (take_slot ps n)
 
-pub listed_all : (ps : List Posting) → listed (slot_of ps) (length ps) ≡ ps
+pub listed_all : (ps : List Posting) → listed (slice_get ps) (length ps) ≡ ps
 listed_all ps = listed-take ps (length ps) ∙ take_all (length ps) ps (omega arith)
 
 -- what the answer to all tells

@@ -1,18 +1,10 @@
 -- Postings in order, all or none.
-use Rattle.std.specs.Prelude.{◌≡◌, ℕ, zero, suc, cond, List, [], ◌∷◌, ◌++◌, length, ℤ, pos, ◌+ℤ◌, neg_ℤ, ◌≤ℤ◌, Some, None, Ok, Option, Result, nat_lt, slice_index_or}
+use Rattle.std.specs.Prelude.{◌≡◌, ℕ, zero, suc, List, [], ◌∷◌, ◌++◌, ℤ, pos, ◌+ℤ◌, neg_ℤ, ◌≤ℤ◌, Some, None, Ok, Option, Result}
 use Rattle.std.specs.Result.{result_and}
 use Rattle.ledger.specs.declared.account.Account.{Account}
 use Rattle.ledger.specs.declared.refusal.PostRefused.{PostRefused}
 use Rattle.ledger.specs.Model.{answer, posted, after, if_taken}
 use Rattle.posting.specs.declared.posting.Posting.{Posting}
-
--- a posting of nothing
-abbrev pub nothing : Posting
-nothing = record { account = 0; amount = pos 0 }
-
--- what stands at a place of a list, from 0
-abbrev pub slot_of : List Posting → ℕ → Option Posting
-slot_of ps k = cond (nat_lt k (length ps)) (Some (slice_index_or ps k nothing)) None
 
 -- a posting, or nothing to post, as a list
 abbrev pub one : Option Posting → List Posting

@@ -1,7 +1,6 @@
 // Where postings are read from.
-ghost use Rattle.std.specs.Prelude.{◌≡◌, ℕ, length, Option};
+ghost use Rattle.std.specs.Prelude.{◌≡◌, ℕ, length, Option, slice_get};
 ghost use Rattle.posting.specs.declared.posting.Posting.{Posting};
-ghost use Rattle.posting.specs.Postings.{slot_of};
 
 use super::Posting;
 
@@ -31,7 +30,7 @@ pub struct Listed<'a> {
 impl<'a> Source for Listed<'a> {
     ghost many = { λ s. length s.postings.now };
 
-    ghost slot = { λ s k. slot_of s.postings.now k };
+    ghost slot = { λ s k. slice_get s.postings.now k };
 
     fn places(&self) -> usize {
         self.postings.len()
