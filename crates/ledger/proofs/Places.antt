@@ -1,10 +1,11 @@
 -- A model by places: what stands where, what a posting writes, and how far its sum can go.
-use Rattle.std.proofs.Common.{◌≡◌, ℕ, zero, suc, ◌+◌, ◌-◌, ◌<◌, ◌≤◌, List, [], ◌∷◌, length, get_or, drop, set, ℤ, pos, ◌+ℤ◌, Some, None, refl, ap, ◌∙◌, arith, lt-ltb, eq-eqb, ne_eqb, le-leb}
+use Rattle.std.proofs.Common.{◌≡◌, ℕ, zero, suc, ◌+◌, ◌-◌, ◌<◌, ◌≤◌, List, [], ◌∷◌, length, get_or, drop, set, ℤ, pos, ◌+ℤ◌, Some, None, sym, refl, ap, ◌∙◌, arith, lt-ltb, eq-eqb, ne_eqb, le-leb}
 use borrow.Author.Tests.{lt-leb}
 use Rattle.std.proofs.lemmas.List.{drop_more, drop_all}
 use Rattle.std.proofs.lemmas.Int.{ints}
+use Rattle.std.specs.Option.{option_map}
 use Rattle.ledger.specs.declared.account.Account.{Account}
-use Rattle.ledger.specs.Model.{numbers, blank, Sound, From, Lawful, find, moved, posted, number_at, balance_in, balance_of, total}
+use Rattle.ledger.specs.Model.{numbers, blank, Sound, From, Lawful, find, moved, posted, number_at, balance_of, total}
 
 pub number_in : (m : List Account) (p : ℕ) → 0 < p → p ≤ length m → number_at m p ≡ Some (get_or m (p - 1) blank).number
 number_in m p h k = rw (lt-ltb 0 p h, le-leb p (length m) k)
@@ -12,18 +13,11 @@ number_in m p h k = rw (lt-ltb 0 p h, le-leb p (length m) k)
 pub number_past : (m : List Account) (p : ℕ) → length m < p → number_at m p ≡ None
 number_past m p h = rw (lt-ltb 0 p (omega arith), lt-leb p (length m) h)
 
--- what reading a place told
-pub number_is : (m : List Account) (i n : ℕ) → i < length m → Some n ≡ number_at m (i + 1) → n ≡ (get_or m i blank).number
-number_is m i n h e =
+-- what reading a place tells
+pub number_there : (m : List Account) (i : ℕ) → i < length m → number_at m (i + 1) ≡ Some (get_or m i blank).number
+number_there m i h =
     let s : i + 1 - 1 ≡ i = omega arith in
-    let k : Some n ≡ Some (get_or m i blank).number = e ∙ number_in m (i + 1) (omega arith) (omega arith) ∙ ap (λ j. Some (get_or m j blank).number) s in
-    cc
-
-pub number_there : (m : List Account) (i : ℕ) → i < length m → None ≡ number_at m (i + 1) → ⊥
-number_there m i h e =
-    let k : None ≡ Some (get_or m (i + 1 - 1) blank).number = e ∙ number_in m (i + 1) (omega arith) (omega arith) in
-    let z : ◌≡◌ {A = ℕ} 0 1 = cc in
-    omega arith
+    number_in m (i + 1) (omega arith) (omega arith) ∙ ap (λ j. Some (get_or m j blank).number) s
 
 -- the first account with a number
 pub found_at : (m : List Account) (i n : ℕ) (d : Account) → i < length m → (get_or m i d).number ≡ n → ((k : ℕ) → k < i → (get_or m k d).number ≡ n → ⊥) → find m n ≡ Some (get_or m i d)
@@ -84,14 +78,9 @@ total_all m i sum rest h e =
     let s : total (drop i m) ≡ pos 0 = ap total (drop_all i m h) in
     omega (arith, ints)
 
--- what reading a balance told
-pub balance_is : (m : List Account) (i n : ℕ) (b : ℤ) → Lawful m → i < length m → Some n ≡ number_at m (i + 1) → Some b ≡ balance_of m n → b ≡ (get_or m i blank).balance
-balance_is m i n b f h e s =
-    let k : Some b ≡ Some (get_or m i blank).balance = s ∙ ap (balance_of m) (number_is m i n h e) ∙ ap balance_in (found_there m i blank f h) in
-    cc
-
-pub balance_there : (m : List Account) (i n : ℕ) → Lawful m → i < length m → Some n ≡ number_at m (i + 1) → None ≡ balance_of m n → ⊥
-balance_there m i n f h e s =
-    let k : None ≡ Some (get_or m i blank).balance = s ∙ ap (balance_of m) (number_is m i n h e) ∙ ap balance_in (found_there m i blank f h) in
-    let z : ◌≡◌ {A = ℕ} 0 1 = cc in
-    omega arith
+-- what reading the balance of the account at a place tells
+pub balance_there : (m : List Account) (i n : ℕ) → Lawful m → i < length m → number_at m (i + 1) ≡ Some n → balance_of m n ≡ Some (get_or m i blank).balance
+balance_there m i n f h e =
+    let k : Some n ≡ Some (get_or m i blank).number = sym e ∙ number_there m i h in
+    let s : n ≡ (get_or m i blank).number = cc in
+    ap (balance_of m) s ∙ ap (option_map (λ (a : Account). a.balance)) (found_there m i blank f h)

@@ -1,8 +1,7 @@
 -- What posting does to a model: its answer, the laws that stay, the sum that moves, and how a posting is taken back.
-use Rattle.std.proofs.Common.{◌≡◌, ℕ, suc, Bool, true, false, cond, ◌&&◌, T, eqb, List, [], ◌∷◌, ℤ, pos, ◌+ℤ◌, neg_ℤ, ◌≤ℤ◌, Some, None, Ok, Err, Option, Result, sym, refl, ap, ◌∙◌, subst, arith, ne_eqb, eqb-true}
+use Rattle.std.proofs.Common.{◌≡◌, ℕ, suc, Bool, true, false, cond, eqb, List, [], ◌∷◌, ℤ, pos, ◌+ℤ◌, neg_ℤ, ◌≤ℤ◌, Some, None, Ok, Err, Option, Result, sym, refl, ap, ◌∙◌, arith, ne_eqb, eqb-true}
 use borrow.Author.Tests.{clash}
 use lib.IntN.{+ℤ-neg_ℤ_cancel}
-use lib.Signed.{le_z, le_z_yes}
 use Rattle.std.proofs.lemmas.Int.{ints}
 use Rattle.ledger.specs.declared.account.Account.{Account}
 use Rattle.ledger.specs.declared.refusal.PostRefused.{PostRefused}
@@ -15,20 +14,8 @@ pub by_test : (b : Bool) (P : Bool → Type 0) → (b ≡ true → P true) → (
 by_test true P t f = t refl
 by_test false P t f = f refl
 
-pub and_left : (p q : Bool) → (p && q) ≡ true → p ≡ true
-and_left true q e = refl
-and_left false q e = e
-
-pub and_right : (p q : Bool) → (p && q) ≡ true → q ≡ true
-and_right true q e = e
-and_right false q e = absurd (clash e)
-
-pub le_z_true : (a b : ℤ) → le_z a b ≡ true → a ≤ℤ b
-le_z_true a b e = le_z_yes (subst T (sym e) tt)
-
 pub within_between : (a : Account) (z : ℤ) → within a z ≡ true → Between a z
-within_between a z e =
-    (le_z_true a.lower z (and_left (le_z a.lower z) (le_z z a.upper) e), le_z_true z a.upper (and_right (le_z a.lower z) (le_z z a.upper) e))
+within_between a z e = (grind (arith, ints), grind (arith, ints))
 
 pub between_within : (a : Account) (z : ℤ) → Between a z → within a z ≡ true
 between_within a z (p, q) = grind (arith, ints)

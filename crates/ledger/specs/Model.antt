@@ -1,5 +1,6 @@
 -- A ledger's open accounts as an ascending list, and what reading and posting mean on it.
 use Rattle.std.specs.Prelude.{ℕ, suc, ◌-◌, ◌<◌, ◌≤◌, Bool, cond, ◌&&◌, List, [], ◌∷◌, length, ℤ, pos, ◌+ℤ◌, neg_ℤ, ◌≤ℤ◌, Some, None, Ok, Err, Option, Result, ◌==◌, int_le, nat_le, nat_lt, slice_index_or}
+use Rattle.std.specs.Option.{option_map}
 use Rattle.ledger.specs.declared.account.Account.{Account}
 use Rattle.ledger.specs.declared.refusal.PostRefused.{PostRefused}
 use Rattle.ledger.specs.declared.refusal.PostRefused.TheVariants.{NotOpen, OutOfBounds}
@@ -34,14 +35,9 @@ abbrev pub find : List Account → ℕ → Option Account
 find [] n = None
 find (a ∷ rest) n = cond (a.number == n) (Some a) (find rest n)
 
--- the balance of an account that may be absent
-abbrev pub balance_in : Option Account → Option ℤ
-balance_in None = None
-balance_in (Some a) = Some a.balance
-
 -- the balance under a number
 abbrev pub balance_of : List Account → ℕ → Option ℤ
-balance_of m n = balance_in (find m n)
+balance_of m n = option_map (λ a. a.balance) (find m n)
 
 -- a record of zeros
 abbrev pub blank : Account

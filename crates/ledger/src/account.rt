@@ -19,9 +19,8 @@ impl Account {
     pub fn raised(self, amount: i64) -> Option<i64>
         ensures { result ≡ raised self amount }
     {
-        match self.balance.checked_add(amount) {
-            Some(balance) if self.lower <= balance && balance <= self.upper => Some(balance),
-            _ => None,
-        }
+        let bounds = self.lower..=self.upper;
+        let balance = self.balance.checked_add(amount)?;
+        bounds.contains(&balance).then_some(balance)
     }
 }

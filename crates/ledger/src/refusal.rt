@@ -2,16 +2,20 @@
 ghost use Rattle.std.specs.Prelude.{◌≡◌};
 ghost use Rattle.ledger.specs.Refusals.{number_of, place_of};
 
+use thiserror::Error;
+
 const NOT_OPEN: u32 = 20;
 
 const OUT_OF_BOUNDS: u32 = 21;
 
 /// Why a posting is refused, with the account that it was for.
-#[derive(Clone, Copy, PartialEq, Eq, Debug)]
+#[derive(Clone, Copy, PartialEq, Eq, Debug, Error)]
 pub enum PostRefused {
     /// The ledger has no such account.
+    #[error("{number} at account {account}: the account is not open", number = self.number())]
     NotOpen { account: u32 },
     /// The new balance would be outside the account's bounds.
+    #[error("{number} at account {account}: the balance would be out of bounds", number = self.number())]
     OutOfBounds { account: u32 },
 }
 
@@ -31,8 +35,7 @@ impl PostRefused {
         ensures { result ≡ place_of self }
     {
         match self {
-            PostRefused::NotOpen { account } => account,
-            PostRefused::OutOfBounds { account } => account,
+            PostRefused::NotOpen { account } | PostRefused::OutOfBounds { account } => account,
         }
     }
 }

@@ -8,6 +8,7 @@ use super::Accounts;
 pub fn sum_of_balances<L: Accounts>(ledger: &L) -> i128
     ensures { result ≡ total (L.Accounts.model ledger.now) }
 {
+    // A loop and no `sum()`: of signed numbers that one needs a bound on every partial sum, which a chain has no place for.
     let mut sum: i128 = 0;
     for place in 0..ledger.count() {
         sum += balance_at(ledger, place) as i128;
@@ -20,11 +21,6 @@ fn balance_at<L: Accounts>(ledger: &L, place: usize) -> i64
     requires { place < length (L.Accounts.model ledger.now) }
     ensures { result ≡ (slice_index_or (L.Accounts.model ledger.now) place blank).balance }
 {
-    match ledger.account_at(place + 1) {
-        Some(account) => match ledger.balance(account) {
-            Some(balance) => balance,
-            None => unreachable(),
-        },
-        None => unreachable(),
-    }
+    let account = ledger.account_at(place + 1).unwrap();
+    ledger.balance(account).unwrap()
 }

@@ -1,3 +1,4 @@
 pub mod Tables
 pub mod Joins
 pub mod Runs
+pub mod Searches

@@ -1,13 +1,13 @@
 -- The run of lawful records: its laws, its count, and what a write to one of its balances leaves.
-use Rattle.std.proofs.Common.{◌≡◌, ℕ, zero, suc, ◌+◌, ◌<◌, ◌≤◌, Bool, true, false, cond, ◌&&◌, ltb, leb, List, [], ◌∷◌, ◌++◌, length, get_or, take, drop, set, ℤ, pos, ◌+ℤ◌, neg_ℤ, Some, None, Ok, Err, sym, refl, ap, ◌∙◌, subst, arith}
-use lib.Signed.{le_z}
-use Rattle.std.proofs.lemmas.List.{length-take, length-set, get_or-take, drop_more, drop_all, drop-set-lt, take-append-drop, take-take}
+use Rattle.std.proofs.Common.{◌≡◌, ℕ, zero, suc, ◌+◌, ◌<◌, ◌≤◌, true, false, cond, List, [], ◌∷◌, ◌++◌, length, get_or, take, drop, set, ℤ, ◌+ℤ◌, Some, None, Ok, Err, min, sym, refl, ap, ◌∙◌, subst, ⊎_elim, arith}
+use Rattle.std.proofs.lemmas.Bool.{cases_lt}
+use Rattle.std.proofs.lemmas.Int.{ints}
+use Rattle.std.proofs.lemmas.List.{length-take, length-set, get_or-take, drop_more, take_all, drop-set-lt, take-append-drop, take-take}
 use Rattle.ledger.specs.declared.account.Account.{Account}
-use Rattle.ledger.specs.Model.{limit, numbers, within, moved, raised, find, answer, answer_at, after, blank}
-use Rattle.ledger.proofs.Posting.{by_test, and_left, and_right, after_taken}
+use Rattle.ledger.specs.Model.{within, moved, raised, find, answer, answer_at, after, blank}
+use Rattle.ledger.proofs.Posting.{by_test, after_taken}
 use Rattle.ledger.proofs.Places.{found_at, posted_at, not_found}
 use Rattle.ledger.specs.declared.refusal.PostRefused.TheVariants.{NotOpen, OutOfBounds}
-use Rattle.ledgers.specs.Lawfuls.{and_6}
 use Rattle.ledgers.specs.Table.{most, lawful_from, run, table_model, open_records, beyond, Absent, FirstAt, TableKept}
 
 pub run_length : (least : ℕ) (xs : List Account) → length (run least xs) ≤ length xs
@@ -25,15 +25,8 @@ run_front least (a ∷ rest) =
     (λ _. ap (λ l. a ∷ l) (run_front (suc a.number) rest))
     (λ _. refl)
 
-and_swap : (p q r s t u s' t' : Bool) → (p && (q && ((r && s) && (t && u)))) ≡ true → (s' && t') ≡ true → (p && (q && ((r && s') && (t' && u)))) ≡ true
-and_swap p q r s t u s' t' e h =
-    let f = and_6 p q r s t u e in
-    let k = and_left s' t' h in
-    let l = and_right s' t' h in
-    rw (f.0, f.1, f.2, f.5, k, l)
-
 lawful-moved : (least : ℕ) (a : Account) (x : ℤ) → lawful_from least a ≡ true → within a (a.balance +ℤ x) ≡ true → lawful_from least (moved a x) ≡ true
-lawful-moved least a x e h = and_swap (leb least a.number) (ltb a.number numbers) (le_z (neg_ℤ (pos limit)) a.lower) (le_z a.lower a.balance) (le_z a.balance a.upper) (le_z a.upper (pos limit)) (le_z a.lower (a.balance +ℤ x)) (le_z (a.balance +ℤ x) a.upper) e h
+lawful-moved least a x e h = grind (arith, ints)
 
 -- a balance that moves within its bounds leaves the run as it was elsewhere
 pub run-set : (least : ℕ) (xs : List Account) (i : ℕ) (d : Account) (x : ℤ) → i < length (run least xs) → within (get_or xs i d) ((get_or xs i d).balance +ℤ x) ≡ true → run least (set xs i (moved (get_or xs i d) x)) ≡ set (run least xs) i (moved (get_or xs i d) x)
@@ -49,26 +42,20 @@ run-set least (a ∷ rest) (suc i) d x h w =
     (λ _ lt. absurd (omega arith))
     h
 
+-- no more than the first records are looked at
+pub few_is : (rs : List Account) → take (min (length rs) most) rs ≡ take most rs
+few_is rs =
+    ⊎_elim
+    (λ lt. let same : min (length rs) most ≡ most = omega arith in ap (λ n. take n rs) same)
+    (λ le. let same : min (length rs) most ≡ length rs = omega arith in ap (λ n. take n rs) same ∙ take_all (length rs) rs (omega arith) ∙ sym (take_all most rs le))
+    (cases_lt most (length rs))
+
 -- the count, one record more
-module _ (rs : List Account) (least i n : ℕ) (d : Account) (so_far : i + length (run least (drop i (take most rs))) ≡ n) where
-  cut : i < length rs → i < most → drop i (take most rs) ≡ get_or rs i d ∷ drop (i + 1) (take most rs)
-  cut h k =
-      let within-take : i < length (take most rs) = simp length-take (omega arith) in
-      drop_more (take most rs) i d within-take ∙ ap (λ a. a ∷ drop (i + 1) (take most rs)) (get_or-take most rs i d k)
-
-  pub count_more : i < length rs → i < most → lawful_from least (get_or rs i d) ≡ true → (i + 1 ≤ length (take most rs)) × ((i + 1) + length (run ((get_or rs i d).number + 1) (drop (i + 1) (take most rs))) ≡ n)
-  count_more h k e =
-      let s : length (run least (drop i (take most rs))) ≡ suc (length (run (suc (get_or rs i d).number) (drop (i + 1) (take most rs)))) = ap (λ l. length (run least l)) (cut h k) ∙ rw e in
-      (simp length-take (omega arith), (let t : length (run ((get_or rs i d).number + 1) (drop (i + 1) (take most rs))) ≡ length (run (suc (get_or rs i d).number) (drop (i + 1) (take most rs))) = ap (λ k. length (run k (drop (i + 1) (take most rs)))) (omega arith) in omega arith))
-
-  pub count_stop : i < length rs → i < most → lawful_from least (get_or rs i d) ≡ false → i ≡ n
-  count_stop h k e =
-      let s : length (run least (drop i (take most rs))) ≡ 0 = ap (λ l. length (run least l)) (cut h k) ∙ rw e in
-      omega arith
-
-  pub count_end : length (take most rs) ≤ i → i ≡ n
-  count_end h =
-      let s : length (run least (drop i (take most rs))) ≡ 0 = ap (λ l. length (run least l)) (drop_all i (take most rs) h) in
+module _ (few : List Account) (least i n : ℕ) (d : Account) (so_far : i + length (run least (drop i few)) ≡ n) where
+  pub count_more : i < length few → lawful_from least (get_or few i d) ≡ true → (i + 1) + length (run ((get_or few i d).number + 1) (drop (i + 1) few)) ≡ n
+  count_more h e =
+      let s : length (run least (drop i few)) ≡ suc (length (run (suc (get_or few i d).number) (drop (i + 1) few))) = ap (λ l. length (run least l)) (drop_more few i d h) ∙ rw e in
+      let t : length (run ((get_or few i d).number + 1) (drop (i + 1) few)) ≡ length (run (suc (get_or few i d).number) (drop (i + 1) few)) = ap (λ k. length (run k (drop (i + 1) few))) (omega arith) in
       omega arith
 
 pub open_most : (rs : List Account) → open_records rs ≤ most

@@ -1,27 +1,17 @@
 -- The models of the three ledgers are lawful.
-use Rattle.std.specs.Prelude.{◌≡◌, ℕ, suc, ◌≤◌, Bool, true, cond, ◌&&◌, List, [], ◌∷◌, ◌++◌, take, ℤ, pos, neg_ℤ, int_le, nat_le, nat_lt}
-use Rattle.std.proofs.Common.{arith, leb-true, ltb-true, ltb-false}
+use Rattle.std.specs.Prelude.{◌≡◌, ℕ, suc, ◌≤◌, true, cond, List, [], ◌∷◌, ◌++◌, take, ℤ, nat_lt}
+use Rattle.std.proofs.Common.{arith, ltb-true, ltb-false}
 use Rattle.std.proofs.lemmas.Int.{ints}
 use Rattle.ledger.specs.declared.account.Account.{Account}
-use Rattle.ledger.specs.Model.{limit, numbers, Sound, From, Lawful}
-use Rattle.ledger.proofs.Posting.{by_test, and_left, and_right, le_z_true}
+use Rattle.ledger.specs.Model.{Sound, From, Lawful}
+use Rattle.ledger.proofs.Posting.{by_test}
 use Rattle.ledgers.specs.Join.{below, from_on, join}
 use Rattle.ledgers.specs.Operator.{operators, InLimit}
 use Rattle.ledgers.specs.Table.{most, lawful_from, run, table_model}
 
--- the six tests of a record
-pub and_6 : (p q r s t u : Bool) → (p && (q && ((r && s) && (t && u)))) ≡ true → (p ≡ true) × (q ≡ true) × (r ≡ true) × (s ≡ true) × (t ≡ true) × (u ≡ true)
-and_6 p q r s t u e =
-    let qq = and_right p (q && ((r && s) && (t && u))) e in
-    let rr = and_right q ((r && s) && (t && u)) qq in
-    let rs = and_left (r && s) (t && u) rr in
-    let tu = and_right (r && s) (t && u) rr in
-    (and_left p (q && ((r && s) && (t && u))) e, and_left q ((r && s) && (t && u)) qq, and_left r s rs, and_right r s rs, and_left t u tu, and_right t u tu)
-
 pub lawful_parts : (least : ℕ) (a : Account) → lawful_from least a ≡ true → (least ≤ a.number) × Sound a
 lawful_parts least a e =
-    let f = and_6 (nat_le least a.number) (nat_lt a.number numbers) (int_le (neg_ℤ (pos limit)) a.lower) (int_le a.lower a.balance) (int_le a.balance a.upper) (int_le a.upper (pos limit)) e in
-    (leb-true least a.number f.0, record { numbered = ltb-true a.number numbers f.1; lowest = le_z_true (neg_ℤ (pos limit)) a.lower f.2; above = le_z_true a.lower a.balance f.3; under = le_z_true a.balance a.upper f.4; highest = le_z_true a.upper (pos limit) f.5 })
+    (grind (arith, ints), record { numbered = grind (arith, ints); lowest = grind (arith, ints); above = grind (arith, ints); under = grind (arith, ints); highest = grind (arith, ints) })
 
 pub run-lawful : (least : ℕ) (xs : List Account) → From least (run least xs)
 run-lawful least [] = tt

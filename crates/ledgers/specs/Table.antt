@@ -51,7 +51,3 @@ pub record FirstAt (xs : List Account) (n i : ℕ) : Type 0 where
   pub inside : i < length xs
   pub here : (slice_index_or xs i blank).number ≡ n
   pub before : (k : ℕ) → k < i → (slice_index_or xs k blank).number ≢ n
-
--- a record with another balance
-abbrev pub holding : Account → ℤ → Account
-holding a z = record { number = a.number; balance = z; lower = a.lower; upper = a.upper }

@@ -29,16 +29,16 @@ impl<A, B> Joined<A, B> {
 fn lies_below<L: Accounts>(accounts: &L, place: usize, border: u32) -> bool
     ensures { result ≡ is_below border (number_at (L.Accounts.model accounts.now) place) }
 {
-    match accounts.account_at(place) {
-        Some(number) => number < border,
-        None => false,
-    }
+    accounts
+        .account_at(place)
+        .is_some_and(|number| number < border)
 }
 
 /// How many accounts are below a number: they ascend, so halving finds it.
 fn count_below<L: Accounts>(accounts: &L, border: u32) -> usize
     ensures { result ≡ length (below border (L.Accounts.model accounts.now)) }
 {
+    // By hand: the accounts are read by their places, so there is no slice that `partition_point` could halve.
     let mut low = 0;
     let mut high = accounts.count();
     while low < high {
@@ -69,10 +69,8 @@ impl<A: Accounts, B: Accounts> Accounts for Joined<A, B> {
             return self.first.account_at(place);
         }
         let skipped = count_below(&self.second, self.border);
-        match (place - low).checked_add(skipped) {
-            Some(later) => self.second.account_at(later),
-            None => None,
-        }
+        let later = (place - low).checked_add(skipped)?;
+        self.second.account_at(later)
     }
 
     fn balance(&self, account: u32) -> Option<i64> {

@@ -67,10 +67,8 @@ fn moved(account: u32, balance: i64, amount: i64) -> Result<i64, PostRefused>
         lower: -LIMIT,
         upper: LIMIT,
     };
-    match held.raised(amount) {
-        Some(balance) => Ok(balance),
-        None => Err(PostRefused::OutOfBounds { account }),
-    }
+    held.raised(amount)
+        .ok_or(PostRefused::OutOfBounds { account })
 }
 
 impl Ledger for Operator {

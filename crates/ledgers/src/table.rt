@@ -1,10 +1,10 @@
 // The table ledger, over the caller's account records.
-ghost use Rattle.std.specs.Prelude.{◌≡◌, ◌<◌, ◌≤◌, length, MatchOption, slice_index_or, slice_set, refl};
+ghost use Rattle.std.specs.Prelude.{◌≡◌, ◌≤◌, length, MatchOption, refl};
 ghost use Rattle.std.proofs.Common.{◌∙◌};
-ghost use Rattle.ledgers.specs.Table.{Absent, FirstAt, ascend, lawful_from, table_model, open_records, TableKept, checked, holding};
+ghost use Rattle.ledgers.specs.Table.{Absent, FirstAt, lawful_from, table_model, open_records, TableKept, checked};
 ghost use Rattle.ledgers.specs.Lawfuls.{table_lawful};
 ghost use Rattle.ledgers.specs.Laws.{Says};
-ghost use Rattle.ledger.specs.Model.{answer, after, blank};
+ghost use Rattle.ledger.specs.Model.{Lawful, answer, after};
 
 use super::refusal::TableRefused;
 use ledger::{Account, Accounts, LIMIT, Ledger, PostRefused};
@@ -42,19 +42,13 @@ fn check_run(records: &[Account]) -> Result<(), TableRefused>
     }
 }
 
-fn in_order(low: i64, middle: i64, high: i64) -> bool
-    ensures { result ≡ ascend low middle high }
-{
-    low <= middle && middle <= high
-}
-
 /// Whether a record can follow those with numbers below `least`.
 fn is_lawful(least: u64, account: Account) -> bool
     ensures { result ≡ lawful_from least account }
 {
     least <= account.number as u64
-        && in_order(-LIMIT, account.lower, account.balance)
-        && in_order(account.balance, account.upper, LIMIT)
+        && (-LIMIT..=account.balance).contains(&account.lower)
+        && (account.balance..=LIMIT).contains(&account.upper)
 }
 
 /// How many records are accounts.
@@ -63,41 +57,33 @@ fn open_count(records: &[Account]) -> usize
     ensures inside { result ≤ length records.now }
     ensures few { result ≤ 500 }
 {
+    let few = &records[..records.len().min(MOST)];
     let mut least = 0;
-    let mut open = 0;
-    while open < records.len() && open < MOST && is_lawful(least, records[open]) {
-        least = records[open].number as u64 + 1;
-        open += 1;
+    for (open, account) in few.iter().enumerate() {
+        if !is_lawful(least, *account) {
+            return open;
+        }
+        least = account.number as u64 + 1;
     }
-    open
+    few.len()
 }
 
 /// The records that are accounts.
 fn open_part(records: &[Account]) -> &[Account]
-    ensures { result.now ≡ table_model records.now }
+    ensures model { result.now ≡ table_model records.now }
+    ensures lawful { Lawful result.now }
 {
-    let open = open_count(records);
-    &records[0..open]
+    &records[..open_count(records)]
 }
 
-/// The place of the first record with a number, from 0.
-fn place_of(records: &[Account], number: u32) -> Option<usize>
-    ensures { MatchOption result (Absent records.now number) (λ i. FirstAt records.now number i) }
+/// The place of the account with a number, from 0.
+fn place_of(accounts: &[Account], number: u32) -> Option<usize>
+    requires { Lawful accounts.now }
+    ensures { MatchOption result (Absent accounts.now number) (λ i. FirstAt accounts.now number i) }
 {
-    for (place, record) in records.iter().enumerate() {
-        if record.number == number {
-            return Some(place);
-        }
-    }
-    None
-}
-
-/// Writes the balance of the record at a place, from 0.
-fn put_balance(records: &mut [Account], place: usize, balance: i64)
-    requires { place < length records.old }
-    ensures { records.new ≡ slice_set records.old place (holding (slice_index_or records.old place blank) balance) }
-{
-    records[place].balance = balance;
+    accounts
+        .binary_search_by_key(&number, |account| account.number)
+        .ok()
 }
 
 /// Adds an amount to the balance of one account.
@@ -106,16 +92,12 @@ fn post_to(records: &mut [Account], account: u32, amount: i64) -> Result<(), Pos
     ensures posts { table_model records.new ≡ after (table_model records.old) account amount }
     ensures keeps { TableKept records.old records.new }
 {
-    match place_of(open_part(records), account) {
-        Some(place) => match records[place].raised(amount) {
-            Some(balance) => {
-                put_balance(records, place, balance);
-                Ok(())
-            }
-            None => Err(PostRefused::OutOfBounds { account }),
-        },
-        None => Err(PostRefused::NotOpen { account }),
-    }
+    let place = place_of(open_part(records), account).ok_or(PostRefused::NotOpen { account })?;
+    let balance = records[place]
+        .raised(amount)
+        .ok_or(PostRefused::OutOfBounds { account })?;
+    records[place].balance = balance;
+    Ok(())
 }
 
 impl<'a> Accounts for Table<'a> {
@@ -129,18 +111,14 @@ impl<'a> Accounts for Table<'a> {
 
     fn account_at(&self, place: usize) -> Option<u32> {
         let accounts = open_part(self.records);
-        if place == 0 || accounts.len() < place {
-            return None;
-        }
-        Some(accounts[place - 1].number)
+        let account = accounts.get(place.checked_sub(1)?)?;
+        Some(account.number)
     }
 
     fn balance(&self, account: u32) -> Option<i64> {
         let accounts = open_part(self.records);
-        match place_of(accounts, account) {
-            Some(place) => Some(accounts[place].balance),
-            None => None,
-        }
+        let place = place_of(accounts, account)?;
+        Some(accounts[place].balance)
     }
 }
 

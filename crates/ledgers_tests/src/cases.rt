@@ -3,8 +3,12 @@ use super::client::{pay, pay_both};
 use ledger::{Account, Accounts, LIMIT, Ledger, PostRefused, sum_of_balances};
 use ledgers::{Joined, Operator, Table};
 use posting::Posting;
+use std::test::Fail;
 
-const ACCEPTED: (u32, u32) = (0, 0);
+/// Accepted, or the number and the place of a refusal.
+type Answer = Result<(), (u32, u32)>;
+
+const ACCEPTED: Answer = Ok(());
 
 fn account(number: u32, balance: i64, lower: i64, upper: i64) -> Account {
     Account {
@@ -20,27 +24,22 @@ fn small(number: u32) -> Account {
     account(number, 0, -10, 10)
 }
 
-/// The number and the place of what the check answers.
-fn checked(records: &mut [Account]) -> (u32, u32) {
-    match (Table { records }).check() {
-        Ok(()) => ACCEPTED,
-        Err(refused) => (refused.number(), refused.place()),
-    }
+/// What the check answers.
+fn checked(records: &mut [Account]) -> Answer {
+    let answer = (Table { records }).check();
+    answer.map_err(|refused| (refused.number(), refused.place()))
 }
 
-/// The number and the place of what a posting answers.
-fn told(answer: Result<(), PostRefused>) -> (u32, u32) {
-    match answer {
-        Ok(()) => ACCEPTED,
-        Err(refused) => (refused.number(), refused.place()),
-    }
+/// What a posting answers.
+fn told(answer: Result<(), PostRefused>) -> Answer {
+    answer.map_err(|refused| (refused.number(), refused.place()))
 }
 
 /// Records with the numbers from 0 on.
 fn many() -> [Account; 501] {
     let mut records = [small(0); 501];
-    for i in 0..501 {
-        records[i].number = i as u32;
+    for (record, number) in records.iter_mut().zip(0..) {
+        record.number = number;
     }
     records
 }
@@ -49,12 +48,12 @@ fn many() -> [Account; 501] {
 fn run_ends_at_each_fault(rt: HostRuntime) {
     assert_eq!(rt; checked(&mut [small(7); 0]), ACCEPTED);
     assert_eq!(rt; checked(&mut [small(7), small(9)]), ACCEPTED);
-    assert_eq!(rt; checked(&mut [small(7), small(7)]), (9, 2));
-    assert_eq!(rt; checked(&mut [small(7), small(9), small(8)]), (9, 3));
-    assert_eq!(rt; checked(&mut [account(7, 0, 1, 10)]), (9, 1));
-    assert_eq!(rt; checked(&mut [account(7, 0, -10, -1)]), (9, 1));
-    assert_eq!(rt; checked(&mut [account(7, 0, -LIMIT - 1, 0)]), (9, 1));
-    assert_eq!(rt; checked(&mut [account(7, 0, 0, LIMIT + 1)]), (9, 1));
+    assert_eq!(rt; checked(&mut [small(7), small(7)]), Err((9, 2)));
+    assert_eq!(rt; checked(&mut [small(7), small(9), small(8)]), Err((9, 3)));
+    assert_eq!(rt; checked(&mut [account(7, 0, 1, 10)]), Err((9, 1)));
+    assert_eq!(rt; checked(&mut [account(7, 0, -10, -1)]), Err((9, 1)));
+    assert_eq!(rt; checked(&mut [account(7, 0, -LIMIT - 1, 0)]), Err((9, 1)));
+    assert_eq!(rt; checked(&mut [account(7, 0, 0, LIMIT + 1)]), Err((9, 1)));
     assert_eq!(rt;
         checked(&mut [account(7, 0, -LIMIT, LIMIT), account(8, -10, -10, -10)]),
         ACCEPTED
@@ -62,13 +61,13 @@ fn run_ends_at_each_fault(rt: HostRuntime) {
 }
 
 /// The check of 500 lawful records.
-fn first_500() -> (u32, u32) {
+fn first_500() -> Answer {
     let mut records = many();
     checked(&mut records[0..500])
 }
 
 /// The check of 501 records, the third with the number given.
-fn all_501(third: u32) -> (u32, u32) {
+fn all_501(third: u32) -> Answer {
     let mut records = many();
     records[2].number = third;
     checked(&mut records)
@@ -77,12 +76,12 @@ fn all_501(third: u32) -> (u32, u32) {
 #[test]
 fn run_ends_after_500(rt: HostRuntime) {
     assert_eq!(rt; first_500(), ACCEPTED);
-    assert_eq!(rt; all_501(2), (9, 501));
-    assert_eq!(rt; all_501(1), (9, 3));
+    assert_eq!(rt; all_501(2), Err((9, 501)));
+    assert_eq!(rt; all_501(1), Err((9, 3)));
 }
 
 /// Posts, and answers the refusal and the balance then.
-fn posted<L: Ledger>(ledger: &mut L, account: u32, amount: i64) -> ((u32, u32), Option<i64>) {
+fn posted<L: Ledger>(ledger: &mut L, account: u32, amount: i64) -> (Answer, Option<i64>) {
     let answer = told(ledger.post(account, amount));
     (answer, ledger.balance(account))
 }
@@ -94,12 +93,12 @@ fn table_posts_to_its_bounds(rt: HostRuntime) {
         records: &mut records,
     };
     assert_eq!(rt; posted(&mut table, 7, 10), (ACCEPTED, Some(10)));
-    assert_eq!(rt; posted(&mut table, 7, 1), ((21, 7), Some(10)));
+    assert_eq!(rt; posted(&mut table, 7, 1), (Err((21, 7)), Some(10)));
     assert_eq!(rt; posted(&mut table, 7, -20), (ACCEPTED, Some(-10)));
-    assert_eq!(rt; posted(&mut table, 7, -1), ((21, 7), Some(-10)));
-    assert_eq!(rt; posted(&mut table, 9, i64::MAX), ((21, 9), Some(3)));
-    assert_eq!(rt; posted(&mut table, 9, i64::MIN), ((21, 9), Some(3)));
-    assert_eq!(rt; posted(&mut table, 8, i64::MIN), ((20, 8), None));
+    assert_eq!(rt; posted(&mut table, 7, -1), (Err((21, 7)), Some(-10)));
+    assert_eq!(rt; posted(&mut table, 9, i64::MAX), (Err((21, 9)), Some(3)));
+    assert_eq!(rt; posted(&mut table, 9, i64::MIN), (Err((21, 9)), Some(3)));
+    assert_eq!(rt; posted(&mut table, 8, i64::MIN), (Err((20, 8)), None));
     assert_eq!(rt; table.count(), 2);
     assert_eq!(rt; sum_of_balances(&table), -7);
 }
@@ -108,26 +107,24 @@ fn table_posts_to_its_bounds(rt: HostRuntime) {
 fn operator_posts_to_its_bounds(rt: HostRuntime) {
     let mut operator = Operator::new();
     assert_eq!(rt; posted(&mut operator, 0, LIMIT), (ACCEPTED, Some(LIMIT)));
-    assert_eq!(rt; posted(&mut operator, 0, 1), ((21, 0), Some(LIMIT)));
+    assert_eq!(rt; posted(&mut operator, 0, 1), (Err((21, 0)), Some(LIMIT)));
     assert_eq!(rt; posted(&mut operator, 1, -LIMIT), (ACCEPTED, Some(-LIMIT)));
-    assert_eq!(rt; posted(&mut operator, 1, -1), ((21, 1), Some(-LIMIT)));
-    assert_eq!(rt; posted(&mut operator, 0, i64::MAX), ((21, 0), Some(LIMIT)));
-    assert_eq!(rt; posted(&mut operator, 1, i64::MIN), ((21, 1), Some(-LIMIT)));
-    assert_eq!(rt; posted(&mut operator, 2, 0), ((20, 2), None));
+    assert_eq!(rt; posted(&mut operator, 1, -1), (Err((21, 1)), Some(-LIMIT)));
+    assert_eq!(rt;
+        posted(&mut operator, 0, i64::MAX),
+        (Err((21, 0)), Some(LIMIT))
+    );
+    assert_eq!(rt;
+        posted(&mut operator, 1, i64::MIN),
+        (Err((21, 1)), Some(-LIMIT))
+    );
+    assert_eq!(rt; posted(&mut operator, 2, 0), (Err((20, 2)), None));
     assert_eq!(rt; sum_of_balances(&operator), 0);
 }
 
 /// The numbers at the places 0 to 6.
 fn listed<L: Accounts>(ledger: &L) -> [Option<u32>; 7] {
-    [
-        ledger.account_at(0),
-        ledger.account_at(1),
-        ledger.account_at(2),
-        ledger.account_at(3),
-        ledger.account_at(4),
-        ledger.account_at(5),
-        ledger.account_at(6),
-    ]
+    std::array::from_fn(|place| ledger.account_at(place))
 }
 
 /// Two tables joined at a border, each with accounts on either side of it.
@@ -164,8 +161,8 @@ fn joined_posts_by_the_border(rt: HostRuntime) {
     };
     assert_eq!(rt; posted(&mut joined, 1, 1), (ACCEPTED, Some(1)));
     assert_eq!(rt; posted(&mut joined, 5, 2), (ACCEPTED, Some(2)));
-    assert_eq!(rt; posted(&mut joined, 4, 4), ((20, 4), None));
-    assert_eq!(rt; posted(&mut joined, 5, 9), ((21, 5), Some(2)));
+    assert_eq!(rt; posted(&mut joined, 4, 4), (Err((20, 4)), None));
+    assert_eq!(rt; posted(&mut joined, 5, 9), (Err((21, 5)), Some(2)));
     assert_eq!(rt; sum_of_balances(&joined), 3);
     assert_eq!(rt; low[1].balance, 0);
     assert_eq!(rt; high[1].balance, 2);
@@ -195,12 +192,12 @@ fn joined_over_joined(rt: HostRuntime) {
     assert_eq!(rt; posted(&mut all, 0, -7), (ACCEPTED, Some(-7)));
     assert_eq!(rt; posted(&mut all, 5, 3), (ACCEPTED, Some(3)));
     assert_eq!(rt; posted(&mut all, 9, 4), (ACCEPTED, Some(4)));
-    assert_eq!(rt; posted(&mut all, 9, 7), ((21, 9), Some(4)));
+    assert_eq!(rt; posted(&mut all, 9, 7), (Err((21, 9)), Some(4)));
     assert_eq!(rt; sum_of_balances(&all), 0);
 }
 
 /// What a payment leaves: its answer, the operator's two balances, and the records.
-type Left = ((u32, u32), [Option<i64>; 2], [Account; 3]);
+type Left = (Answer, [Option<i64>; 2], [Account; 3]);
 
 /// Pays from fixed records.
 fn paid(postings: &[Posting]) -> Left {
@@ -216,7 +213,7 @@ fn paid(postings: &[Posting]) -> Left {
 /// A refusal that leaves all as it was.
 fn refused(number: u32, account: u32) -> Left {
     (
-        (number, account),
+        Err((number, account)),
         [Some(0), Some(0)],
         [small(2), small(3), small(5)],
     )
@@ -253,10 +250,27 @@ fn refused_none_are_posted(rt: HostRuntime) {
     );
 }
 
+/// Whether a refusal prints a text.
+fn prints(rt: &HostRuntime, refused: PostRefused, text: &str) -> Result<bool, Fail> {
+    Ok(format!(in rt.alloc(); "{refused}")?.as_str() == text)
+}
+
+#[test]
+fn refusals_print_number_account_and_reason(rt: HostRuntime) -> Result<(), Fail> {
+    let closed = "20 at account 4: the account is not open";
+    let beyond = "21 at account 4294967295: the balance would be out of bounds";
+    assert!(rt; prints(&rt, PostRefused::NotOpen { account: 4 }, closed)?);
+    assert!(rt; prints(&rt, PostRefused::OutOfBounds { account: u32::MAX }, beyond)?);
+    Ok(())
+}
+
 #[test]
 fn client_pays_from_its_records(rt: HostRuntime) {
     let mut records = [small(2), small(3)];
     assert_eq!(rt; told(pay(&mut records, &[of(2, 4), of(0, -4)])), ACCEPTED);
-    assert_eq!(rt; told(pay(&mut records, &[of(3, 4), of(2, 7)])), (21, 2));
+    assert_eq!(rt;
+        told(pay(&mut records, &[of(3, 4), of(2, 7)])),
+        Err((21, 2))
+    );
     assert_eq!(rt; records, [account(2, 4, -10, 10), small(3)]);
 }

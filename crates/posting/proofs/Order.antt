@@ -1,15 +1,16 @@
 -- Postings one after another, and taken back.
-use Rattle.std.proofs.Common.{◌≡◌, ℕ, zero, suc, ◌+◌, ◌-◌, ◌<◌, cond, ltb, List, [], ◌∷◌, ◌++◌, length, get_or, take, ◌+ℤ◌, neg_ℤ, Some, None, Ok, Err, Option, Result, sym, refl, ap, ◌∙◌, subst, ⊎_elim, add-zero, add-suc, add-one, arith, ltb-false, ltb-true}
+use Rattle.std.proofs.Common.{◌≡◌, ℕ, zero, suc, ◌+◌, ◌-◌, ◌<◌, List, [], ◌∷◌, ◌++◌, length, take, slice_get, ◌+ℤ◌, neg_ℤ, Some, None, Ok, Err, Option, Result, sym, refl, ap, ◌∙◌, subst, ⊎_elim, add-zero, add-suc, add-one, arith}
+use Rattle.std.specs.Result.{OnErr, result_and}
 use Rattle.std.proofs.lemmas.Bool.{cases_eq}
 use Rattle.std.proofs.lemmas.Int.{ints}
-use Rattle.std.proofs.lemmas.List.{append-nil, append_assoc, take_more, take_all}
+use Rattle.std.proofs.lemmas.List.{append-nil, append_assoc, take_all}
 use Rattle.ledger.specs.declared.account.Account.{Account}
 use Rattle.ledger.specs.declared.refusal.PostRefused.{PostRefused}
 use Rattle.ledger.specs.Model.{answer, posted, after, Lawful, total}
-use Rattle.ledger.proofs.Posting.{lawful-posted, taken_back, taken_small, total-posted, by_test}
+use Rattle.ledger.proofs.Posting.{lawful-posted, taken_back, taken_small, total-posted}
 use Rattle.posting.specs.declared.posting.Posting.{Posting}
-use Rattle.posting.specs.Laws.{Stopped, Tells, Unmoved, Summed}
-use Rattle.posting.specs.Postings.{nothing, slot_of, one, listed, posted_all, then, answers, left, AllTaken, opposed, undone, SmallAt, amounts}
+use Rattle.posting.specs.Laws.{Stopped, Tells, Summed}
+use Rattle.posting.specs.Postings.{one, listed, posted_all, answers, left, AllTaken, opposed, undone, SmallAt, amounts}
 
 pub posted_push : (m : List Account) (ps : List Posting) (p : Posting) → posted_all m (ps ++ p ∷ []) ≡ posted (posted_all m ps) p.account p.amount
 posted_push m [] p = refl
@@ -49,7 +50,7 @@ total_all m (q ∷ ps) (h, t) =
     omega (arith, ints)
 
 -- the answer tells that all are taken
-then_ok : (a r : Result (Unit {0}) PostRefused) → then a r ≡ Ok tt → (a ≡ Ok tt) × (r ≡ Ok tt)
+then_ok : (a r : Result (Unit {0}) PostRefused) → result_and a r ≡ Ok tt → (a ≡ Ok tt) × (r ≡ Ok tt)
 then_ok (Ok _) r e = (refl, e)
 then_ok (Err w) r e = let z : ◌≡◌ {A = ℕ} 0 1 = cc in absurd (omega arith)
 
@@ -71,7 +72,7 @@ pub answers-append : (m : List Account) (ps qs : List Posting) → AllTaken m ps
 answers-append m [] qs t = refl
 answers-append m (p ∷ ps) qs (h, t) = rw h (answers-append (posted m p.account p.amount) ps qs t)
 
-then_err : (a r r' : Result (Unit {0}) PostRefused) (e : PostRefused) → (r ≡ Err e → r' ≡ Err e) → then a r ≡ Err e → then a r' ≡ Err e
+then_err : (a r r' : Result (Unit {0}) PostRefused) (e : PostRefused) → (r ≡ Err e → r' ≡ Err e) → result_and a r ≡ Err e → result_and a r' ≡ Err e
 then_err (Ok _) r r' e f h = f h
 then_err (Err w) r r' e f h = h
 
@@ -148,31 +149,30 @@ module _ (f : ℕ → Option Posting) where
         let kept : l' ≡ posted_all m (listed f i) = p ∙ left_err l (one (f i)) e h ∙ so_far in
         b ∙ ap (λ k. undone k f i) kept ∙ undone_all m i lawful taken ∙ sym (left_err m (listed f n) e (stopped n e lt h))
 
-  -- one place more is taken back
-  pub undone_more : (m l l' : List Account) (k n : ℕ) → 0 < k → undone l f k ≡ undone m f n → l' ≡ opposed l (f (k - 1)) → undone l' f (k - 1) ≡ undone m f n
-  undone_more m l l' zero n h e p = absurd (omega arith)
-  undone_more m l l' (suc k) n h e p =
+  -- what stands at one place more is taken back
+  pub undone_more : (m l l' : List Account) (k n : ℕ) (p : Posting) → 0 < k → Some p ≡ f (k - 1) → undone l f k ≡ undone m f n → l' ≡ after l p.account (neg_ℤ p.amount) → undone l' f (k - 1) ≡ undone m f n
+  undone_more m l l' zero n p h here e t = absurd (omega arith)
+  undone_more m l l' (suc k) n p h here e t =
       let down : suc k - 1 ≡ k = omega arith in
-      let p' : l' ≡ opposed l (f k) = p ∙ ap (λ j. opposed l (f j)) down in
-      ap (λ j. undone l' f j) down ∙ ap (λ q. undone q f k) p' ∙ e
+      let t' : l' ≡ opposed l (f k) = t ∙ ap (opposed l) (here ∙ ap f down) in
+      ap (λ j. undone l' f j) down ∙ ap (λ q. undone q f k) t' ∙ e
 
 -- the list by places is the list
-take_slot : (ps : List Posting) (n : ℕ) → take (suc n) ps ≡ take n ps ++ one (slot_of ps n)
-take_slot ps n =
-    let one_more : suc n ≡ n + 1 = omega arith in
-    by_test (ltb n (length ps)) (λ b. take (suc n) ps ≡ take n ps ++ one (cond b (Some (get_or ps n nothing)) None))
-    (λ e. ap (λ k. take k ps) one_more ∙ take_more ps n nothing (ltb-true n (length ps) e))
-    (λ e. let le = ltb-false n (length ps) e in take_all (suc n) ps (omega arith) ∙ sym (take_all n ps le) ∙ sym (append-nil (take n ps)))
+take_slot : (ps : List Posting) (n : ℕ) → take (suc n) ps ≡ take n ps ++ one (slice_get ps n)
+take_slot [] zero = refl
+take_slot [] (suc n) = refl
+take_slot (p ∷ ps) zero = refl
+take_slot (p ∷ ps) (suc n) = ap (λ l. p ∷ l) (take_slot ps n)
 
-listed-take : (ps : List Posting) (n : ℕ) → listed (slot_of ps) n ≡ take n ps
+listed-take : (ps : List Posting) (n : ℕ) → listed (slice_get ps) n ≡ take n ps
 listed-take ps zero = refl
-listed-take ps (suc n) = ap (λ l. l ++ one (slot_of ps n)) (listed-take ps n) ∙ sym (take_slot ps n)
+listed-take ps (suc n) = ap (λ l. l ++ one (slice_get ps n)) (listed-take ps n) ∙ sym (take_slot ps n)
 
-pub listed_all : (ps : List Posting) → listed (slot_of ps) (length ps) ≡ ps
+pub listed_all : (ps : List Posting) → listed (slice_get ps) (length ps) ≡ ps
 listed_all ps = listed-take ps (length ps) ∙ take_all (length ps) ps (omega arith)
 
 -- what the answer to all tells
-pub unmoved_left : (r : Result (Unit {0}) PostRefused) (m m' : List Account) (ps : List Posting) → r ≡ answers m ps → m' ≡ left m ps → Unmoved r m m'
+pub unmoved_left : (r : Result (Unit {0}) PostRefused) (m m' : List Account) (ps : List Posting) → r ≡ answers m ps → m' ≡ left m ps → OnErr r (m' ≡ m)
 unmoved_left (Ok _) m m' ps e p = tt
 unmoved_left (Err w) m m' ps e p = p ∙ left_err m ps w (sym e)
 
@@ -185,7 +185,7 @@ stopped_later m p ps e t s =
     record { before = p ∷ s.before; here = s.here; rest = s.rest; split = ap (λ l. p ∷ l) s.split; taken = (t, s.taken); refused = s.refused }
 
 -- the posting at the head is taken or refused
-stopped_by : (m : List Account) (p : Posting) (ps : List Posting) (e : PostRefused) (a r : Result (Unit {0}) PostRefused) → answer m p.account p.amount ≡ a → (r ≡ Err e → Stopped (posted m p.account p.amount) ps e) → then a r ≡ Err e → Stopped m (p ∷ ps) e
+stopped_by : (m : List Account) (p : Posting) (ps : List Posting) (e : PostRefused) (a r : Result (Unit {0}) PostRefused) → answer m p.account p.amount ≡ a → (r ≡ Err e → Stopped (posted m p.account p.amount) ps e) → result_and a r ≡ Err e → Stopped m (p ∷ ps) e
 stopped_by m p ps e (Ok tt) r t again h = stopped_later m p ps e t (again h)
 stopped_by m p ps e (Err w) r t again h = record { before = []; here = p; rest = ps; split = refl; taken = tt; refused = t ∙ h }
 

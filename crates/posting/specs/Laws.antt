@@ -32,11 +32,6 @@ MovesByAmounts = (m : List Account) (ps : List Posting) → AllTaken m ps → to
 abbrev pub UndoneAll : Type 0
 UndoneAll = (m : List Account) (f : ℕ → Option Posting) (n : ℕ) → Lawful m → AllTaken m (listed f n) → undone (posted_all m (listed f n)) f n ≡ m
 
--- after a refusal the accounts are as they were
-abbrev pub Unmoved : Result (Unit {0}) PostRefused → List Account → List Account → Type 0
-Unmoved (Ok _) m m' = Unit {0}
-Unmoved (Err _) m m' = m' ≡ m
-
 -- the sum of all balances moves by the sum of the amounts, or not at all
 abbrev pub Summed : Result (Unit {0}) PostRefused → List Posting → List Account → List Account → Type 0
 Summed (Ok _) ps m m' = total m' ≡ total m +ℤ amounts ps

@@ -1,17 +1,10 @@
 -- Postings in order, all or none.
-use Rattle.std.specs.Prelude.{◌≡◌, ℕ, zero, suc, cond, List, [], ◌∷◌, ◌++◌, length, ℤ, pos, ◌+ℤ◌, neg_ℤ, ◌≤ℤ◌, Some, None, Ok, Err, Option, Result, nat_lt, slice_index_or}
+use Rattle.std.specs.Prelude.{◌≡◌, ℕ, zero, suc, List, [], ◌∷◌, ◌++◌, ℤ, pos, ◌+ℤ◌, neg_ℤ, ◌≤ℤ◌, Some, None, Ok, Option, Result}
+use Rattle.std.specs.Result.{result_and}
 use Rattle.ledger.specs.declared.account.Account.{Account}
 use Rattle.ledger.specs.declared.refusal.PostRefused.{PostRefused}
 use Rattle.ledger.specs.Model.{answer, posted, after, if_taken}
 use Rattle.posting.specs.declared.posting.Posting.{Posting}
-
--- a posting of nothing
-abbrev pub nothing : Posting
-nothing = record { account = 0; amount = pos 0 }
-
--- what stands at a place of a list, from 0
-abbrev pub slot_of : List Posting → ℕ → Option Posting
-slot_of ps k = cond (nat_lt k (length ps)) (Some (slice_index_or ps k nothing)) None
 
 -- a posting, or nothing to post, as a list
 abbrev pub one : Option Posting → List Posting
@@ -28,15 +21,10 @@ abbrev pub posted_all : List Account → List Posting → List Account
 posted_all m [] = m
 posted_all m (p ∷ ps) = posted_all (posted m p.account p.amount) ps
 
--- the first answer where it is a refusal, else the second
-abbrev pub then : Result (Unit {0}) PostRefused → Result (Unit {0}) PostRefused → Result (Unit {0}) PostRefused
-then (Ok _) rest = rest
-then (Err e) rest = Err e
-
 -- the answer to all the postings: the first refusal in their order
 abbrev pub answers : List Account → List Posting → Result (Unit {0}) PostRefused
 answers m [] = Ok tt
-answers m (p ∷ ps) = then (answer m p.account p.amount) (answers (posted m p.account p.amount) ps)
+answers m (p ∷ ps) = result_and (answer m p.account p.amount) (answers (posted m p.account p.amount) ps)
 
 -- what they leave: all of them, or none
 abbrev pub left : List Account → List Posting → List Account

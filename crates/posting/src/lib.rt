@@ -1,9 +1,9 @@
 // Postings in order, all or none, over any ledger.
 #![tactic(auto)]
 
-ghost use Rattle.std.specs.Prelude.{◌≡◌, ℕ, ◌-◌, ◌<◌, Err};
-ghost use Rattle.posting.specs.Postings.{one, listed, answers, left, opposed, undone, SmallAt};
-ghost use Rattle.posting.specs.Laws.{Unmoved, Summed};
+ghost use Rattle.std.specs.Prelude.{◌≡◌, ℕ, ◌<◌, OnErr};
+ghost use Rattle.posting.specs.Postings.{one, listed, answers, left, undone, SmallAt};
+ghost use Rattle.posting.specs.Laws.{Summed};
 
 mod laws;
 mod posting;
@@ -19,15 +19,13 @@ pub fn post_all<L: Ledger, S: Source>(ledger: &mut L, source: &S) -> Result<(), 
     ensures answers { result ≡ answers (L.Accounts.model ledger.old) (listed (S.Source.slot source.now) (S.Source.many source.now)) }
     ensures posts { L.Accounts.model ledger.new ≡ left (L.Accounts.model ledger.old) (listed (S.Source.slot source.now) (S.Source.many source.now)) }
     ensures keeps { L.Ledger.kept ledger.old ledger.new }
-    ensures unmoved { Unmoved result (L.Accounts.model ledger.old) (L.Accounts.model ledger.new) }
+    ensures unmoved { OnErr result (L.Accounts.model ledger.new ≡ L.Accounts.model ledger.old) }
     ensures sums { Summed result (listed (S.Source.slot source.now) (S.Source.many source.now)) (L.Accounts.model ledger.old) (L.Accounts.model ledger.new) }
 {
-    let places = source.places();
-    let mut next = 0;
-    while next < places {
-        match post_at(ledger, source, next) {
-            Ok(()) => next += 1,
-            Err(refused) => return give_up(ledger, source, next, refused),
+    for place in 0..source.places() {
+        if let Err(refused) = post_at(ledger, source, place) {
+            take_back(ledger, source, place);
+            return Err(refused);
         }
     }
     Ok(())
@@ -38,7 +36,7 @@ pub fn post_list<L: Ledger>(ledger: &mut L, postings: &[Posting]) -> Result<(), 
     ensures answers { result ≡ answers (L.Accounts.model ledger.old) postings.now }
     ensures posts { L.Accounts.model ledger.new ≡ left (L.Accounts.model ledger.old) postings.now }
     ensures keeps { L.Ledger.kept ledger.old ledger.new }
-    ensures unmoved { Unmoved result (L.Accounts.model ledger.old) (L.Accounts.model ledger.new) }
+    ensures unmoved { OnErr result (L.Accounts.model ledger.new ≡ L.Accounts.model ledger.old) }
     ensures sums { Summed result postings.now (L.Accounts.model ledger.old) (L.Accounts.model ledger.new) }
 {
     post_all(ledger, &Listed { postings })
@@ -60,42 +58,15 @@ fn post_at<L: Ledger, S: Source>(
     }
 }
 
-/// Takes back what stands at the first places, and passes the refusal on.
-fn give_up<L: Ledger, S: Source>(
-    ledger: &mut L,
-    source: &S,
-    places: usize,
-    refused: PostRefused,
-) -> Result<(), PostRefused>
-    requires { (k : ℕ) → k < places → SmallAt (S.Source.slot source.now k) }
-    ensures refused { result ≡ Err refused }
-    ensures posts { L.Accounts.model ledger.new ≡ undone (L.Accounts.model ledger.old) (S.Source.slot source.now) places }
-    ensures keeps { L.Ledger.kept ledger.old ledger.new }
-{
-    take_back(ledger, source, places);
-    Err(refused)
-}
-
 /// Takes back what stands at the first places, last first.
 fn take_back<L: Ledger, S: Source>(ledger: &mut L, source: &S, places: usize)
     requires { (k : ℕ) → k < places → SmallAt (S.Source.slot source.now k) }
     ensures posts { L.Accounts.model ledger.new ≡ undone (L.Accounts.model ledger.old) (S.Source.slot source.now) places }
     ensures keeps { L.Ledger.kept ledger.old ledger.new }
 {
-    let mut left = places;
-    while left > 0 {
-        take_last_back(ledger, source, left);
-        left -= 1;
-    }
-}
-
-/// Posts the opposite of what stands at the last of the first places.
-fn take_last_back<L: Ledger, S: Source>(ledger: &mut L, source: &S, places: usize)
-    requires { (0 < places) × (SmallAt (S.Source.slot source.now (places - 1))) }
-    ensures posts { L.Accounts.model ledger.new ≡ opposed (L.Accounts.model ledger.old) (S.Source.slot source.now (places - 1)) }
-    ensures keeps { L.Ledger.kept ledger.old ledger.new }
-{
-    if let Some(posting) = source.at(places - 1) {
-        let _ = ledger.post(posting.account, -posting.amount);
+    for place in (0..places).rev() {
+        if let Some(posting) = source.at(place) {
+            let _ = ledger.post(posting.account, -posting.amount);
+        }
     }
 }

@@ -1,7 +1,6 @@
 // Where postings are read from.
-ghost use Rattle.std.specs.Prelude.{◌≡◌, ℕ, length, Option};
-ghost use Rattle.posting.specs.declared.posting.Posting.{Posting as APosting};
-ghost use Rattle.posting.specs.Postings.{slot_of};
+ghost use Rattle.std.specs.Prelude.{◌≡◌, ℕ, length, Option, slice_get};
+ghost use Rattle.posting.specs.declared.posting.Posting.{Posting};
 
 use super::Posting;
 
@@ -11,7 +10,7 @@ pub trait Source {
     ghost many: { Self → ℕ };
 
     // What stands at a place, from 0.
-    ghost slot: { Self → ℕ → Option APosting };
+    ghost slot: { Self → ℕ → Option Posting };
 
     /// How many places there are.
     fn places(&self) -> usize
@@ -31,17 +30,13 @@ pub struct Listed<'a> {
 impl<'a> Source for Listed<'a> {
     ghost many = { λ s. length s.postings.now };
 
-    ghost slot = { λ s k. slot_of s.postings.now k };
+    ghost slot = { λ s k. slice_get s.postings.now k };
 
     fn places(&self) -> usize {
         self.postings.len()
     }
 
     fn at(&self, place: usize) -> Option<Posting> {
-        if place < self.places() {
-            Some(self.postings[place])
-        } else {
-            None
-        }
+        self.postings.get(place).copied()
     }
 }

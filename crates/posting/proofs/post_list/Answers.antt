@@ -1,19 +1,13 @@
-use Rattle.std.proofs.Common.{◌≡◌, ap, ◌∙◌}
-use Rattle.posting.specs.Postings.{answers, left}
-use Rattle.posting.proofs.Order.{listed_all, summed_left}
+use Rattle.std.proofs.Common.{subst}
+use Rattle.posting.specs.Laws.{Summed}
+use Rattle.posting.proofs.Order.{listed_all}
 use Rattle.posting.proofs.post_list.Goals as goal
 
-pub returns : goal.returns
-returns g c =
-    let m = g.L.Accounts.model c.args.ledger.now in
-    let m' = g.L.Accounts.model c.post_all.new.ledger in
-    let ps = c.args.postings.now in
-    let a : c.post_all.result ≡ answers m ps = c.post_all.ensures.answers ∙ ap (answers m) (listed_all ps) in
-    let p : m' ≡ left m ps = c.post_all.ensures.posts ∙ ap (left m) (listed_all ps) in
-    record {
-      answers = a;
-      posts = p;
-      keeps = c.post_all.ensures.keeps;
-      unmoved = c.post_all.ensures.unmoved;
-      sums = summed_left c.post_all.result m m' ps a p;
-    }
+pub returns-clause-answers : goal.returns-clause-answers
+returns-clause-answers g c = simp listed_all at c.post_all.ensures.answers
+
+pub returns-clause-posts : goal.returns-clause-posts
+returns-clause-posts g c = simp listed_all at c.post_all.ensures.posts
+
+pub returns-clause-sums : goal.returns-clause-sums
+returns-clause-sums g c = subst (λ ps. Summed c.post_all.result ps (g.L.Accounts.model c.args.ledger.now) (g.L.Accounts.model c.post_all.new.ledger)) (listed_all c.args.postings.now) c.post_all.ensures.sums

@@ -1,9 +1,7 @@
-use Rattle.std.proofs.Common.{◌≡◌, ◌+◌, ◌-◌, ◌≤◌, length, take, drop}
-use Rattle.ledgers.specs.Table.{run, most, open_records}
+use Rattle.std.proofs.Common.{◌≡◌, ◌+◌, length, drop}
+use Rattle.ledgers.specs.Table.{run, open_records}
 use Rattle.ledgers.proofs.table.open_count.Given as goal
 
+-- the accounts so far and the run that is left make the whole
 abbrev pub invariant-loop-open : goal.invariant-loop-open
-invariant-loop-open l = (l.«open» ≤ length (take most l.records)) × (l.«open» + length (run l.least (drop l.«open» (take most l.records))) ≡ open_records l.records)
-
-abbrev pub decreases-loop-open : goal.decreases-loop-open
-decreases-loop-open l = length l.records - l.«open»
+invariant-loop-open l = l.«open» + length (run l.least (drop l.«open» l.few)) ≡ open_records l.records

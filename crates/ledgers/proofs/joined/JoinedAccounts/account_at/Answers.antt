@@ -13,25 +13,25 @@ returns-then-place-low g c =
     let le : c.args.place ≤ length (below j.border m) = omega (arith, c.count_below-low.ensures) in
     c.account_at.ensures ∙ sym (place-low j.border m k c.args.place le)
 
-pub returns-in-Some : goal.returns-in-Some
-returns-in-Some g c =
+pub returns : goal.returns
+returns g c =
     let j = c.args.self.now in
     let b = j.border in
     let m = g.A.Accounts.model j.first in
     let k = g.B.Accounts.model j.second in
     let p = c.args.place in
     let lt : length (below b m) < p = omega (arith, c.count_below-low.ensures) in
-    let e : c.in-Some.later ≡ p - length (below b m) + length (below b k) = omega (arith, c.count_below-low.ensures, c.count_below-skipped.ensures, c.in-Some.ensures.1) in
-    c.account_at-in-Some.ensures ∙ ap (number_at k) e ∙ sym (place-high b m k p lt)
+    let e : c.in_ok-later.later ≡ p - length (below b m) + length (below b k) = omega (arith, c.count_below-low.ensures, c.count_below-skipped.ensures, c.in_ok-later.ensures.1) in
+    c.account_at-2.ensures ∙ ap (number_at k) e ∙ sym (place-high b m k p lt)
 
-pub returns-in-None : goal.returns-in-None
-returns-in-None g c =
+pub returns-in_err-later : goal.returns-in_err-later
+returns-in_err-later g c =
     let j = c.args.self.now in
     let b = j.border in
     let m = g.A.Accounts.model j.first in
     let k = g.B.Accounts.model j.second in
     let p = c.args.place in
     let lt : length (below b m) < p = omega (arith, c.count_below-low.ensures) in
-    let far : 18446744073709551616 ≤ p - length (below b m) + length (below b k) = omega (arith, c.count_below-low.ensures, c.count_below-skipped.ensures, c.in-None.ensures) in
+    let far : 18446744073709551616 ≤ p - length (below b m) + length (below b k) = omega (arith, c.count_below-low.ensures, c.count_below-skipped.ensures, c.in_err-later.ensures) in
     let few = lawful-length k (g.B.Accounts.lawful j.second) in
-    sym (place-high b m k p lt ∙ number_past k (p - length (below b m) + length (below b k)) (omega arith))
+    c.from_residual.ensures ∙ sym (place-high b m k p lt ∙ number_past k (p - length (below b m) + length (below b k)) (omega arith))
