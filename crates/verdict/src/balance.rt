@@ -1,22 +1,12 @@
 // Sales less purchases, interval by interval.
 ghost use Rattle.std.specs.Prelude.{◌≡◌, ℕ, ◌≤◌, length};
-ghost use Rattle.verdict.specs.Balance.{sale as sale_of, order_sale, block_sale, net_of, interval_balance};
-ghost use Rattle.verdict.specs.Sums.{Bounded};
+ghost use Rattle.verdict.specs.Balance.{sale_in, net_of, interval_balance};
 ghost use Rattle.verdict.specs.Verdict.{Sized};
 
 use super::walk::{Amount, Check, sum_of};
-use market::records::{Block, Interval, Order, Side};
+use market::entry::Entry;
+use market::records::{Block, Interval, Order};
 use market::refusal::Refusal;
-
-fn sale(side: Side, fill: u32) -> i64
-    ensures is { result ≡ sale_of side fill }
-    ensures small { Bounded 40000000000000 result }
-{
-    match side {
-        Side::Sell => fill as i64,
-        Side::Buy => -(fill as i64),
-    }
-}
 
 /// What an entry sells in one interval; a purchase counts minus.
 #[derive(Drop)]
@@ -24,29 +14,14 @@ struct Sales {
     interval: u32,
 }
 
-impl Amount<Order> for Sales {
+impl<E: Entry> Amount<E> for Sales {
     ghost may = { λ _ _ _. Unit {0} };
 
-    ghost gives = { λ s o f. order_sale s.interval o f };
+    ghost gives = { λ s x f. sale_in E.kind s.interval x f };
 
-    fn amount(&self, x: &Order, fill: u32) -> i64 {
-        if x.interval as i64 == self.interval as i64 {
-            sale(x.side, fill)
-        } else {
-            0
-        }
-    }
-}
-
-impl Amount<Block> for Sales {
-    ghost may = { λ _ _ _. Unit {0} };
-
-    ghost gives = { λ s b f. block_sale s.interval b f };
-
-    fn amount(&self, x: &Block, fill: u32) -> i64 {
-        let interval = self.interval as i64;
-        if x.first as i64 <= interval && interval <= x.last as i64 {
-            sale(x.side, fill)
+    fn amount(&self, x: &E, fill: u32) -> i64 {
+        if x.covers(self.interval) {
+            x.side().signed(fill)
         } else {
             0
         }

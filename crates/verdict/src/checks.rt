@@ -2,7 +2,8 @@
 ghost use Rattle.std.specs.Prelude.{◌≡◌, length};
 ghost use Rattle.verdict.specs.Verdict.{paper_checks, book_checks, book_lengths_ok};
 
-use super::phases::{MOST_BLOCKS, MOST_INTERVALS, MOST_ORDERS, bounds, lengths, quantities};
+use super::phases::{bounds, lengths, quantities};
+use market::bounds::{MOST_BLOCKS, MOST_INTERVALS, MOST_ORDERS};
 use market::records::{Block, Order};
 use market::refusal::Refusal;
 

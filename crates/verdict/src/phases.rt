@@ -8,14 +8,9 @@ use super::balance::Balance;
 use super::rules::{Bounds, Prices, Quantities};
 use super::walk::{first_broken, first_refused, sum_of};
 use super::welfare::Worths;
+use market::bounds::{MOST_BLOCKS, MOST_INTERVALS, MOST_ORDERS};
 use market::records::{Block, Interval, Order};
 use market::refusal::Refusal;
-
-pub(crate) const MOST_INTERVALS: usize = 100;
-
-pub(crate) const MOST_ORDERS: usize = 1024;
-
-pub(crate) const MOST_BLOCKS: usize = 64;
 
 fn has_lawful_lengths(
     orders: &[Order],

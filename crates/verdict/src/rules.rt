@@ -5,11 +5,10 @@ ghost use Rattle.verdict.specs.Rules.{within, full, quantity_rule, price_at, mis
 ghost use Rattle.verdict.specs.Rules.{enough, price_sum, block_prices, span as span_of, pays, block_price};
 
 use super::walk::{Check, Rule};
+use market::bounds::THOUSANDTHS_PER_STEP;
 use market::entry::Entry;
 use market::records::{Block, Interval, Order, Side};
 use market::refusal::Refusal;
-
-const THOUSANDTHS_PER_STEP: i64 = 100;
 
 const WHOLE_PERCENTAGE: i64 = 100;
 
@@ -19,29 +18,14 @@ pub(crate) struct Bounds {
     pub intervals: usize,
 }
 
-impl Check<Order> for Bounds {
+impl<E: Entry> Check<E> for Bounds {
     ghost ready = { λ _. Unit {0} };
 
-    ghost answer = { λ d o k. outside k (order_bounds d.intervals o) };
+    ghost answer = { λ d x k. outside k (E.kind.bounds d.intervals x) };
 
-    fn check(&self, x: &Order, number: u32) -> Result<(), Refusal> {
-        match x.check_bounds(self.intervals) {
-            Ok(()) => Ok(()),
-            Err(_) => Err(Refusal::OutsideBounds { entry: number }),
-        }
-    }
-}
-
-impl Check<Block> for Bounds {
-    ghost ready = { λ _. Unit {0} };
-
-    ghost answer = { λ d b k. outside k (block_bounds d.intervals b) };
-
-    fn check(&self, x: &Block, number: u32) -> Result<(), Refusal> {
-        match x.check_bounds(self.intervals) {
-            Ok(()) => Ok(()),
-            Err(_) => Err(Refusal::OutsideBounds { entry: number }),
-        }
+    fn check(&self, x: &E, number: u32) -> Result<(), Refusal> {
+        x.check_bounds(self.intervals)
+            .map_err(|_| Refusal::OutsideBounds { entry: number })
     }
 }
 
@@ -49,33 +33,16 @@ impl Check<Block> for Bounds {
 #[derive(Drop)]
 pub(crate) struct Quantities;
 
-fn check_quantity(quantity: i32, fill: u32, entry: u32) -> Result<(), Refusal>
-    ensures { result ≡ quantity_rule quantity fill «entry» }
-{
-    if fill as i64 <= THOUSANDTHS_PER_STEP * quantity as i64 {
+impl<E: Entry> Rule<E> for Quantities {
+    ghost may = { λ _ _ _. Unit {0} };
+
+    ghost answer = { λ _ x f k. quantity_rule (E.kind.quantity x) f k };
+
+    fn judge(&self, x: &E, fill: u32, entry: u32) -> Result<(), Refusal> {
+        if fill as i64 > THOUSANDTHS_PER_STEP * x.quantity() as i64 {
+            return Err(Refusal::OverQuantity { entry });
+        }
         Ok(())
-    } else {
-        Err(Refusal::OverQuantity { entry })
-    }
-}
-
-impl Rule<Order> for Quantities {
-    ghost may = { λ _ _ _. Unit {0} };
-
-    ghost answer = { λ _ o f k. quantity_rule o.quantity f k };
-
-    fn judge(&self, x: &Order, fill: u32, entry: u32) -> Result<(), Refusal> {
-        check_quantity(x.quantity, fill, entry)
-    }
-}
-
-impl Rule<Block> for Quantities {
-    ghost may = { λ _ _ _. Unit {0} };
-
-    ghost answer = { λ _ b f k. quantity_rule b.quantity f k };
-
-    fn judge(&self, x: &Block, fill: u32, entry: u32) -> Result<(), Refusal> {
-        check_quantity(x.quantity, fill, entry)
     }
 }
 

@@ -2,7 +2,8 @@
 ghost use Rattle.std.specs.Prelude.{◌≡◌, ℕ, ◌+◌, ◌*◌, ◌≤◌, length, ℤ, Result};
 ghost use Rattle.market.specs.declared.refusal.Refusal.{Refusal as Fault};
 ghost use Rattle.verdict.specs.Walks.{first_in, first_filled};
-ghost use Rattle.verdict.specs.Sums.{Bounded, sum_filled};
+ghost use Rattle.market.specs.Signed.{Within};
+ghost use Rattle.verdict.specs.Sums.{sum_filled};
 ghost use Rattle.verdict.specs.Each.{Each};
 
 use market::refusal::Refusal;
@@ -74,7 +75,7 @@ pub(crate) trait Amount<T> {
     fn amount(&self, x: &T, fill: u32) -> i64
         requires { may self.now x.now fill }
         ensures is { result ≡ gives self.now x.now fill }
-        ensures small { Bounded 40000000000000 result };
+        ensures small { Within 40000000000000 result };
 }
 
 /// What the entries come to.
@@ -83,7 +84,7 @@ pub(crate) fn sum_of<T, M: Amount<T>>(amounts: &M, entries: &[T], fills: &[u32])
     requires few { length entries.now ≤ 1024 }
     requires may { Each (M.Amount.may amounts.now) entries.now fills.now }
     ensures is { result ≡ sum_filled (M.Amount.gives amounts.now) entries.now fills.now }
-    ensures small { Bounded (40000000000000 * 1024) result }
+    ensures small { Within (40000000000000 * 1024) result }
 {
     let mut sum = 0;
     for i in 0..entries.len() {

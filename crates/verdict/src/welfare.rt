@@ -1,7 +1,7 @@
 // The welfare of a paper: what its fills are worth at their limits.
 ghost use Rattle.std.specs.Prelude.{◌≡◌, ℕ, ◌≤◌, pos, ◌*ℤ◌};
 ghost use Rattle.verdict.specs.Balance.{worth as worth_of, order_worth, block_worth};
-ghost use Rattle.verdict.specs.Sums.{Bounded};
+ghost use Rattle.market.specs.Signed.{Within};
 ghost use Rattle.verdict.specs.Worths.{Mild, Spans};
 
 use super::rules::span;
@@ -11,7 +11,7 @@ use market::records::{Block, Order, Side};
 fn value(limit: i32, fill: u32) -> i64
     requires { Mild limit fill }
     ensures is { result ≡ limit *ℤ pos fill }
-    ensures small { Bounded 400000000000 result }
+    ensures small { Within 400000000000 result }
 {
     limit as i64 * fill as i64
 }
@@ -19,7 +19,7 @@ fn value(limit: i32, fill: u32) -> i64
 fn worth(side: Side, limit: i32, fill: u32) -> i64
     requires { Mild limit fill }
     ensures is { result ≡ worth_of side limit fill }
-    ensures small { Bounded 400000000000 result }
+    ensures small { Within 400000000000 result }
 {
     match side {
         Side::Sell => -value(limit, fill),
@@ -30,7 +30,7 @@ fn worth(side: Side, limit: i32, fill: u32) -> i64
 fn block_worth(block: &Block, fill: u32) -> i64
     requires { Mild block.now.limit fill × Spans block.now }
     ensures is { result ≡ block_worth block.now fill }
-    ensures small { Bounded 40000000000000 result }
+    ensures small { Within 40000000000000 result }
 {
     worth(block.side, block.limit, fill) * span(block)
 }
