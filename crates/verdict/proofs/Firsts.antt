@@ -1,5 +1,5 @@
 -- One turn of a loop that looks for the first refusal: what is left still gives the whole answer.
-use Rattle.std.proofs.Common.{◌≡◌, ℕ, ◌+◌, ◌<◌, ◌≤◌, List, [], ◌∷◌, length, get_or, drop, Ok, Err, Result, sym, refl, ap, ◌∙◌, ap₂, arith}
+use Rattle.std.proofs.Common.{◌⊎◌, ⊎_elim, ◌≡◌, ℕ, ◌+◌, ◌<◌, ◌≤◌, List, [], ◌∷◌, length, get_or, drop, Ok, Err, Result, sym, refl, ap, ◌∙◌, ap₂, arith}
 use Rattle.std.proofs.lemmas.List.{drop_more, drop_all}
 use Rattle.market.specs.declared.refusal.Refusal.{Refusal}
 use Rattle.market.specs.First.{then}
@@ -23,22 +23,11 @@ module _ {X : Type 0} (check : X → ℕ → Result Unit Refusal) (xs : List X) 
 pub first_done : {X : Type 0} (check : X → ℕ → Result Unit Refusal) (xs : List X) (i k : ℕ) (all : Result Unit Refusal) → first_in check (drop i xs) k ≡ all → length xs ≤ i → (u : Unit) → Ok u ≡ all
 first_done {X} check xs i k all left h u = sym (ap (λ (l : List X). first_in check l k) (drop_all i xs h)) ∙ left
 
-module _ {X : Type 0} (check : X → ℕ → ℕ → Result Unit Refusal) (xs : List X) (fs : List ℕ) (i k : ℕ) (d : X) (all : Result Unit Refusal)
-    (same : length xs ≡ length fs) (left : first_filled check (drop i xs) (drop i fs) k ≡ all) where
-  here' : i < length xs → then (check (get_or xs i d) (get_or fs i 0) k) (first_filled check (drop (i + 1) xs) (drop (i + 1) fs) (k + 1)) ≡ all
-  here' h = sym (ap₂ (λ (l : List X) (m : List ℕ). first_filled check l m k) (drop_more xs i d h) (drop_more fs i 0 (omega arith))) ∙ left
-
-  pub filled_again : i < length xs → (u : Unit) (k' : ℕ) → k' ≡ k + 1 → Ok u ≡ check (get_or xs i d) (get_or fs i 0) k → first_filled check (drop (i + 1) xs) (drop (i + 1) fs) k' ≡ all
-  filled_again h u k' e p =
-      ap (λ (n : ℕ). first_filled check (drop (i + 1) xs) (drop (i + 1) fs) n) e
-      ∙ ap (λ (r : Result Unit Refusal). then r (first_filled check (drop (i + 1) xs) (drop (i + 1) fs) (k + 1))) p
-      ∙ here' h
-
-  pub filled_stops : i < length xs → (e : Refusal) → Err e ≡ check (get_or xs i d) (get_or fs i 0) k → Err e ≡ all
-  filled_stops h e p = ap (λ (r : Result Unit Refusal). then r (first_filled check (drop (i + 1) xs) (drop (i + 1) fs) (k + 1))) p ∙ here' h
-
-pub filled_done : {X : Type 0} (check : X → ℕ → ℕ → Result Unit Refusal) (xs : List X) (fs : List ℕ) (i k : ℕ) (all : Result Unit Refusal) → first_filled check (drop i xs) (drop i fs) k ≡ all → length xs ≤ i → (u : Unit) → Ok u ≡ all
-filled_done {X} check xs fs i k all left h u = sym (ap (λ (l : List X). first_filled check l (drop i fs) k) (drop_all i xs h)) ∙ left
+-- no entry is left, or no fill
+pub filled_spent : {X : Type 0} (check : X → ℕ → ℕ → Result Unit Refusal) (xs : List X) (fs : List ℕ) (k : ℕ) → (xs ≡ []) ⊎ (fs ≡ []) → first_filled check xs fs k ≡ Ok tt
+filled_spent check [] fs k e = refl
+filled_spent check (x ∷ xs) [] k e = refl
+filled_spent check (x ∷ xs) (f ∷ fs) k e = ⊎_elim (λ p. cc) (λ p. cc) e
 
 -- ---- one check after the other
 

@@ -130,8 +130,8 @@ fn total_price(intervals: &[Interval]) -> i64
     ensures { result ≡ price_sum intervals.now }
 {
     let mut sum = 0;
-    for i in 0..intervals.len() {
-        sum += intervals[i].price as i64;
+    for interval in intervals {
+        sum += i64::from(interval.price);
     }
     sum
 }

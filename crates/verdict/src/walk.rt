@@ -30,8 +30,8 @@ pub(crate) fn first_refused<T, C: Check<T>>(
     requires from { first ≤ 1025 }
     ensures { result ≡ first_in (C.Check.answer check.now) records.now first }
 {
-    for i in 0..records.len() {
-        check.check(&records[i], first + i as u32)?;
+    for (i, x) in records.iter().enumerate() {
+        check.check(x, first + i as u32)?;
     }
     Ok(())
 }
@@ -60,8 +60,8 @@ pub(crate) fn first_broken<T, R: Rule<T>>(
     requires may { Each (R.Rule.may rule.now) entries.now fills.now }
     ensures { result ≡ first_filled (R.Rule.answer rule.now) entries.now fills.now first }
 {
-    for i in 0..entries.len() {
-        rule.judge(&entries[i], fills[i], first + i as u32)?;
+    for (i, (x, fill)) in entries.iter().zip(fills).enumerate() {
+        rule.judge(x, *fill, first + i as u32)?;
     }
     Ok(())
 }
@@ -87,8 +87,8 @@ pub(crate) fn sum_of<T, M: Amount<T>>(amounts: &M, entries: &[T], fills: &[u32])
     ensures small { Within (40000000000000 * 1024) result }
 {
     let mut sum = 0;
-    for i in 0..entries.len() {
-        sum += amounts.amount(&entries[i], fills[i]);
+    for (x, fill) in entries.iter().zip(fills) {
+        sum += amounts.amount(x, *fill);
     }
     sum
 }

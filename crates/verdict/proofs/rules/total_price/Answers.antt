@@ -1,12 +1,9 @@
 use Rattle.std.proofs.Common.{arith}
 use borrow.Author.Differences.{ints}
-use Rattle.verdict.proofs.Sums.{price_more, price_all}
+use Rattle.verdict.proofs.Sums.{price_more}
 use Rattle.verdict.proofs.rules.total_price.Goals as goal
 
-pub loop-i-preserved : goal.loop-i-preserved
-loop-i-preserved c =
-    let w = price_more c.args.intervals.now c.loop-i.i (omega arith) in
-    (omega (arith, ints), omega (arith, ints), omega (arith, ints))
-
-pub returns : goal.returns
-returns c = omega (arith, ints, price_all c.args.intervals.now c.loop-i.i (omega arith))
+pub loop-interval-preserved : goal.loop-interval-preserved
+loop-interval-preserved c =
+    let w = price_more c.args.intervals.now c.loop-interval.interval-index (omega arith) in
+    (omega (arith, ints), record { low = omega (arith, ints); high = omega (arith, ints) })
