@@ -1,27 +1,9 @@
--- One turn of a loop that looks for the first refusal: what is left still gives the whole answer.
-use Rattle.std.proofs.Common.{◌⊎◌, ⊎_elim, ◌≡◌, ℕ, ◌+◌, ◌<◌, ◌≤◌, List, [], ◌∷◌, length, get_or, drop, Ok, Err, Result, sym, refl, ap, ◌∙◌, ap₂, arith}
-use Rattle.std.proofs.lemmas.List.{drop_more, drop_all}
+-- The first refusal: at the end of the walk, of one check after the other, and of a phase that accepts.
+use Rattle.std.proofs.Common.{◌⊎◌, ⊎_elim, ◌≡◌, ℕ, ◌+◌, List, [], ◌∷◌, length, Ok, Err, Result, refl, ap, ◌∙◌, arith}
 use Rattle.market.specs.declared.refusal.Refusal.{Refusal}
 use Rattle.market.specs.First.{then}
 use Rattle.verdict.specs.Walks.{first_in, first_filled}
 use Rattle.verdict.specs.Each.{Each}
-
-module _ {X : Type 0} (check : X → ℕ → Result Unit Refusal) (xs : List X) (i k : ℕ) (d : X) (all : Result Unit Refusal)
-    (left : first_in check (drop i xs) k ≡ all) where
-  here : i < length xs → then (check (get_or xs i d) k) (first_in check (drop (i + 1) xs) (k + 1)) ≡ all
-  here h = sym (ap (λ (l : List X). first_in check l k) (drop_more xs i d h)) ∙ left
-
-  pub first_again : i < length xs → (u : Unit) (k' : ℕ) → k' ≡ k + 1 → Ok u ≡ check (get_or xs i d) k → first_in check (drop (i + 1) xs) k' ≡ all
-  first_again h u k' e p =
-      ap (λ (n : ℕ). first_in check (drop (i + 1) xs) n) e
-      ∙ ap (λ (r : Result Unit Refusal). then r (first_in check (drop (i + 1) xs) (k + 1))) p
-      ∙ here h
-
-  pub first_stops : i < length xs → (e : Refusal) → Err e ≡ check (get_or xs i d) k → Err e ≡ all
-  first_stops h e p = ap (λ (r : Result Unit Refusal). then r (first_in check (drop (i + 1) xs) (k + 1))) p ∙ here h
-
-pub first_done : {X : Type 0} (check : X → ℕ → Result Unit Refusal) (xs : List X) (i k : ℕ) (all : Result Unit Refusal) → first_in check (drop i xs) k ≡ all → length xs ≤ i → (u : Unit) → Ok u ≡ all
-first_done {X} check xs i k all left h u = sym (ap (λ (l : List X). first_in check l k) (drop_all i xs h)) ∙ left
 
 -- no entry is left, or no fill
 pub filled_spent : {X : Type 0} (check : X → ℕ → ℕ → Result Unit Refusal) (xs : List X) (fs : List ℕ) (k : ℕ) → (xs ≡ []) ⊎ (fs ≡ []) → first_filled check xs fs k ≡ Ok tt

@@ -1,6 +1,5 @@
 pub mod Firsts
 pub mod Eachs
-pub mod Sums
 pub mod Products
 pub mod Sizes
 pub mod Judging
