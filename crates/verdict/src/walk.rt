@@ -10,12 +10,9 @@ use market::refusal::Refusal;
 
 /// A look at one record by its number: the entry of an order or a block, or the number of an interval.
 pub(crate) trait Check<T> {
-    ghost ready: { Self → Type 0 };
-
     ghost answer: { Self → T → ℕ → Result Unit Fault };
 
     fn check(&self, x: &T, number: u32) -> Result<(), Refusal>
-        requires { ready self.now }
         ensures { result ≡ answer self.now x.now number };
 }
 
@@ -25,7 +22,6 @@ pub(crate) fn first_refused<T, C: Check<T>>(
     records: &[T],
     first: u32,
 ) -> Result<(), Refusal>
-    requires ready { C.Check.ready check.now }
     requires few { length records.now ≤ 1024 }
     requires from { first ≤ 1025 }
     ensures { result ≡ first_in (C.Check.answer check.now) records.now first }
