@@ -1,6 +1,5 @@
 pub mod Firsts
 pub mod Eachs
-pub mod Products
 pub mod Sizes
 pub mod Judging
 pub mod Keeping

@@ -1,6 +1,7 @@
 // The rules on one record, and on one entry with its fill.
 ghost use Rattle.std.specs.Prelude.{◌≡◌, ℕ, ◌≤◌, true, length, pos, ◌*ℤ◌, ◌≤ℤ◌, Ok};
 ghost use Rattle.market.specs.Bounds.{in_day, quantity_ok, least_ok, span_ok, order_bounds, block_bounds, outside};
+ghost use Rattle.verdict.specs.Rules.{thousandths};
 ghost use Rattle.verdict.specs.Rules.{within, full, quantity_rule, price_at, misses, beats, order_price};
 ghost use Rattle.verdict.specs.Rules.{enough, price_sum, block_prices, span, pays, block_price};
 
@@ -27,6 +28,13 @@ impl<E: Entry> Check<E> for Bounds {
     }
 }
 
+// A quantity in thousandths of a MW.
+fn thousandths(steps: i32) -> i64
+    ensures { result ≡ thousandths steps }
+{
+    THOUSANDTHS_PER_STEP * i64::from(steps)
+}
+
 /// 13: no fill above its quantity.
 #[derive(Drop)]
 pub(crate) struct Quantities;
@@ -37,7 +45,7 @@ impl<E: Entry> Rule<E> for Quantities {
     ghost answer = { λ _ x f k. quantity_rule (E.kind.quantity x) f k };
 
     fn judge(&self, x: &E, fill: u32, entry: u32) -> Result<(), Refusal> {
-        if fill as i64 > THOUSANDTHS_PER_STEP * x.quantity() as i64 {
+        if i64::from(fill) > thousandths(x.quantity()) {
             return Err(Refusal::OverQuantity { entry });
         }
         Ok(())
@@ -81,7 +89,7 @@ fn is_paid(side: Side, limits: i64, prices: i64) -> bool
 fn is_full(quantity: i32, fill: u32) -> bool
     ensures { result ≡ full quantity fill }
 {
-    fill as i64 >= THOUSANDTHS_PER_STEP * quantity as i64
+    i64::from(fill) >= thousandths(quantity)
 }
 
 impl<'a> Rule<Order> for Prices<'a> {
@@ -106,8 +114,7 @@ fn is_enough(block: &Block, fill: u32) -> bool
     requires { (quantity_ok block.now.quantity ≡ true) × (least_ok block.now.least ≡ true) }
     ensures { result ≡ enough block.now fill }
 {
-    block.least as i64 * (THOUSANDTHS_PER_STEP * block.quantity as i64)
-        <= WHOLE_PERCENTAGE * fill as i64
+    i64::from(block.least) * thousandths(block.quantity) <= WHOLE_PERCENTAGE * i64::from(fill)
 }
 
 fn total_price(intervals: &[Interval]) -> i64
@@ -142,14 +149,14 @@ impl<'a> Prices<'a> {
 pub(crate) fn span(block: &Block) -> i64
     ensures { result ≡ span block.now }
 {
-    block.last as i64 - block.first as i64 + 1
+    i64::from(block.last) - i64::from(block.first) + 1
 }
 
 fn limits_of(block: &Block) -> i64
     requires { (pos 1 ≤ℤ span block.now) × (span block.now ≤ℤ pos 100) }
     ensures { result ≡ block.now.limit *ℤ span block.now }
 {
-    block.limit as i64 * span(block)
+    i64::from(block.limit) * span(block)
 }
 
 impl<'a> Rule<Block> for Prices<'a> {

@@ -1,6 +1,6 @@
 // The welfare of a paper: what its fills are worth at their limits.
 ghost use Rattle.std.specs.Prelude.{◌≡◌, ℕ, ◌≤◌, pos, ◌*ℤ◌};
-ghost use Rattle.verdict.specs.Balance.{worth as worth_of, order_worth, block_worth};
+ghost use Rattle.verdict.specs.Balance.{worth, order_worth, block_worth};
 ghost use Rattle.market.specs.Signed.{Within};
 ghost use Rattle.verdict.specs.Worths.{Mild, Spans};
 
@@ -13,12 +13,12 @@ fn value(limit: i32, fill: u32) -> i64
     ensures is { result ≡ limit *ℤ pos fill }
     ensures small { Within 400000000000 result }
 {
-    limit as i64 * fill as i64
+    i64::from(limit) * i64::from(fill)
 }
 
 fn worth(side: Side, limit: i32, fill: u32) -> i64
     requires { Mild limit fill }
-    ensures is { result ≡ worth_of side limit fill }
+    ensures is { result ≡ worth side limit fill }
     ensures small { Within 400000000000 result }
 {
     match side {
