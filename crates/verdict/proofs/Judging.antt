@@ -61,9 +61,6 @@ module _ (n : ℕ) (os : List Order) (fs : List ℕ) (bs : List Block) (gs : Lis
   pub orders_in_day : Each (λ o f. in_day n o.interval ≡ true) os fs
   orders_in_day = each_map _ _ (λ o f e. (order_tests n o e).interval) os fs orders_entered
 
-  pub blocks_in_order : n ≤ 100 → Each (λ b f. (n ≤ 100) × (block_bounds n b ≡ Ok tt)) bs gs
-  blocks_in_order h = each_map _ _ (λ b f e. (h, e)) bs gs blocks_entered
-
   -- what the welfare asks of the paper
   module _ (q : quantities os fs bs gs ≡ Ok tt) where
     order_fits : Each (λ o f. within o.quantity f ≡ true) os fs

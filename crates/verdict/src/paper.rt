@@ -1,5 +1,5 @@
 // A paper on a book, once its lengths are looked at.
-ghost use Rattle.std.specs.Prelude.{◌≡◌, ◌+◌, ◌≤◌, length, Ok, Err, MatchResult};
+ghost use Rattle.std.specs.Prelude.{◌≡◌, ◌+◌, ◌≤◌, length, Ok, Err, IfOk, MatchResult};
 ghost use Rattle.verdict.specs.Verdict.{Sized, book_lengths_ok, paper_lengths, quantities};
 
 use super::rules::Quantities;
@@ -40,9 +40,9 @@ impl<'a, 'b> Paper<'a, 'b> {
         book: Book<'a>,
         fills: Fills<'b>,
     ) -> Result<Paper<'a, 'b>, Refusal>
-        ensures is { MatchResult result (λ p. (p.book ≡ book.entry) × (p.fills ≡ fills.entry)) (λ _. Unit {0}) }
-        ensures lengths { MatchResult result (λ _. paper_lengths intervals book.entry.orders.now fills.entry.orders.now book.entry.blocks.now fills.entry.blocks.now ≡ Ok tt)
-            (λ e. paper_lengths intervals book.entry.orders.now fills.entry.orders.now book.entry.blocks.now fills.entry.blocks.now ≡ Err e) }
+        ensures is { IfOk result (λ p. (p.book ≡ book.entry) × (p.fills ≡ fills.entry)) }
+        ensures judged { let lengths = paper_lengths intervals book.entry.orders.now fills.entry.orders.now book.entry.blocks.now fills.entry.blocks.now
+            in MatchResult result (λ _. lengths ≡ Ok tt) (λ e. lengths ≡ Err e) }
     {
         if !has_lawful_lengths(intervals, book)
             || book.orders.len() != fills.orders.len()
@@ -58,7 +58,8 @@ impl<'a, 'b> Paper<'a, 'b> {
     pub(crate) fn check_quantities(&self) -> Result<(), Refusal>
         ensures { result ≡ quantities self.now.book.orders.now self.now.fills.orders.now self.now.book.blocks.now self.now.fills.blocks.now }
     {
-        first_broken(&Quantities, self.book.orders, self.fills.orders, 1)?;
-        first_broken(&Quantities, self.book.blocks, self.fills.blocks, next_entry(self.book))
+        let Paper { book, fills, .. } = self;
+        first_broken(&Quantities, book.orders, fills.orders, 1)?;
+        first_broken(&Quantities, book.blocks, fills.blocks, next_entry(*book))
     }
 }

@@ -55,11 +55,7 @@ impl<'a, 'b, 'c> Entered<'a, 'b, 'c> {
     }
 }
 
-pub(crate) fn examine(
-    day: &[Interval],
-    book: Book<'_>,
-    fills: Fills<'_>,
-) -> Result<i64, Refusal>
+pub(crate) fn examine(day: &[Interval], book: Book<'_>, fills: Fills<'_>) -> Result<i64, Refusal>
     ensures { result ≡ verdict_of day.now book.entry.orders.now fills.entry.orders.now book.entry.blocks.now fills.entry.blocks.now }
 {
     let paper = Paper::new(day.len(), book, fills)?;

@@ -1,6 +1,6 @@
 // The walks over records: the first refusal, and a sum. Each is written once, for every kind of record and every rule.
 ghost use Rattle.std.specs.Prelude.{◌≡◌, ℕ, ◌+◌, ◌*◌, ◌≤◌, length, ℤ, Result};
-ghost use Rattle.market.specs.declared.refusal.Refusal.{Refusal as Fault};
+ghost use Rattle.market.specs.declared.refusal.Refusal.{Refusal};
 ghost use Rattle.verdict.specs.Walks.{first_in, first_filled};
 ghost use Rattle.market.specs.Signed.{Within};
 ghost use Rattle.verdict.specs.Sums.{sum_filled};
@@ -10,7 +10,7 @@ use market::refusal::Refusal;
 
 /// A look at one record by its number: the entry of an order or a block, or the number of an interval.
 pub(crate) trait Check<T> {
-    ghost answer: { Self → T → ℕ → Result Unit Fault };
+    ghost answer: { Self → T → ℕ → Result Unit Refusal };
 
     fn check(&self, x: &T, number: u32) -> Result<(), Refusal>
         ensures { result ≡ answer self.now x.now number };
@@ -36,7 +36,7 @@ pub(crate) fn first_refused<T, C: Check<T>>(
 pub(crate) trait Rule<T> {
     ghost may: { Self → T → ℕ → Type 0 };
 
-    ghost answer: { Self → T → ℕ → ℕ → Result Unit Fault };
+    ghost answer: { Self → T → ℕ → ℕ → Result Unit Refusal };
 
     fn judge(&self, x: &T, fill: u32, entry: u32) -> Result<(), Refusal>
         requires { may self.now x.now fill }

@@ -8,22 +8,15 @@ use super::rules::span;
 use super::walk::Amount;
 use market::records::{Block, Order, Side};
 
-fn value(limit: i32, fill: u32) -> i64
-    requires { Mild limit fill }
-    ensures is { result ≡ limit *ℤ pos fill }
-    ensures small { Within 400000000000 result }
-{
-    i64::from(limit) * i64::from(fill)
-}
-
 fn worth(side: Side, limit: i32, fill: u32) -> i64
     requires { Mild limit fill }
     ensures is { result ≡ worth side limit fill }
     ensures small { Within 400000000000 result }
 {
+    let value = i64::from(limit) * i64::from(fill);
     match side {
-        Side::Sell => -value(limit, fill),
-        Side::Buy => value(limit, fill),
+        Side::Sell => -value,
+        Side::Buy => value,
     }
 }
 
@@ -39,6 +32,7 @@ fn block_worth(block: &Block, fill: u32) -> i64
 #[derive(Drop)]
 pub(crate) struct Worths;
 
+// A block's worth counts once for each of its intervals, and an order has no such factor: the two are plainer apart.
 impl Amount<Order> for Worths {
     ghost may = { λ _ o f. Mild o.limit f };
 

@@ -16,4 +16,4 @@ invariant-loop-i g l =
     × (i + length xs ≡ length l.entries)
     × Each (g.R.Rule.may l.rule) xs fs
     × (first_filled (g.R.Rule.answer l.rule) xs fs (l.first + i)
-      ≡ first_filled (g.R.Rule.answer l.rule) l.entries l.fills l.first)
+    ≡ first_filled (g.R.Rule.answer l.rule) l.entries l.fills l.first)
