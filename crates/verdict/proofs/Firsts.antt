@@ -1,15 +1,9 @@
--- The first refusal: at the end of the walk, of one check after the other, and of a phase that accepts.
-use Rattle.std.proofs.Common.{◌⊎◌, ⊎_elim, ◌≡◌, ℕ, ◌+◌, List, [], ◌∷◌, length, Ok, Err, Result, refl, ap, ◌∙◌, arith}
+-- The first refusal: of one check after the other, and of a phase that accepts.
+use Rattle.std.proofs.Common.{◌≡◌, ℕ, ◌+◌, List, [], ◌∷◌, length, Ok, Err, Result, refl, ap, ◌∙◌, arith}
 use Rattle.market.specs.declared.refusal.Refusal.{Refusal}
 use Rattle.market.specs.First.{then}
 use Rattle.verdict.specs.Walks.{first_in, first_filled}
 use Rattle.verdict.specs.Each.{Each}
-
--- no entry is left, or no fill
-pub filled_spent : {X : Type 0} (check : X → ℕ → ℕ → Result Unit Refusal) (xs : List X) (fs : List ℕ) (k : ℕ) → (xs ≡ []) ⊎ (fs ≡ []) → first_filled check xs fs k ≡ Ok tt
-filled_spent check [] fs k e = refl
-filled_spent check (x ∷ xs) [] k e = refl
-filled_spent check (x ∷ xs) (f ∷ fs) k e = ⊎_elim (λ p. cc) (λ p. cc) e
 
 -- ---- one check after the other
 

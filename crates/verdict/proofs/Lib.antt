@@ -1,4 +1,5 @@
 pub mod Firsts
+pub mod Spent
 pub mod Eachs
 pub mod Sizes
 pub mod Judging

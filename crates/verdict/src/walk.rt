@@ -50,7 +50,6 @@ pub(crate) fn first_broken<T, R: Rule<T>>(
     fills: &[u32],
     first: u32,
 ) -> Result<(), Refusal>
-    requires same { length entries.now ≡ length fills.now }
     requires few { length entries.now ≤ 1024 }
     requires from { first ≤ 1025 }
     requires may { Each (R.Rule.may rule.now) entries.now fills.now }
@@ -76,7 +75,6 @@ pub(crate) trait Amount<T> {
 
 /// What the entries come to.
 pub(crate) fn sum_of<T, M: Amount<T>>(amounts: &M, entries: &[T], fills: &[u32]) -> i64
-    requires same { length entries.now ≡ length fills.now }
     requires few { length entries.now ≤ 1024 }
     requires may { Each (M.Amount.may amounts.now) entries.now fills.now }
     ensures is { result ≡ sum_filled (M.Amount.gives amounts.now) entries.now fills.now }

@@ -1,7 +1,7 @@
 use Rattle.std.proofs.Common.{refl, sym, ◌∙◌}
 use Rattle.std.proofs.lemmas.Slice.Zip.{either_empty_from_Zip}
 use Rattle.std.specs.Iterator.Adapters.{enumerate_source}
-use Rattle.verdict.proofs.Firsts.{filled_spent}
+use Rattle.verdict.proofs.Spent.{filled_spent}
 use Rattle.verdict.proofs.walk.first_broken.Goals as goal
 
 pub returns : goal.returns
