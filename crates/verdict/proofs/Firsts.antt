@@ -9,7 +9,7 @@ use Rattle.verdict.specs.Each.{Each}
 
 pub then_ok : {X : Type 0} (r : Result Unit Refusal) (s : Result X Refusal) (x : X) → then r s ≡ Ok x → (r ≡ Ok tt) × (s ≡ Ok x)
 then_ok (Ok u) s x e = (refl, e)
-then_ok (Err f) s x e = let z : ◌≡◌ {A = ℕ} 0 1 = cc in absurd (omega arith)
+then_ok (Err f) s x e = (cc, cc)
 
 pub then_both : {X : Type 0} (r : Result Unit Refusal) (s t : Result X Refusal) → r ≡ Ok tt → s ≡ t → then r s ≡ t
 then_both {X} r s t e h = ap (λ (u : Result Unit Refusal). then u s) e ∙ h

@@ -43,7 +43,7 @@ fits_back day os fs bs gs h = tests_back ((leb (length day) 100 && lengths_ok os
 -- ---- the bounds of entry
 pub outside_out : (k : ℕ) (r : Result Unit Refusal) → outside k r ≡ Ok tt → r ≡ Ok tt
 outside_out k (Ok u) e = refl
-outside_out k (Err d) e = let z : ◌≡◌ {A = ℕ} 0 1 = cc in absurd (omega arith)
+outside_out k (Err d) e = cc
 
 module _ {X : Type 0} (entry : X → Result Unit Refusal) where
   pub entered : (xs : List X) (fs : List ℕ) (k : ℕ) → length xs ≡ length fs → first_in (λ x n. outside n (entry x)) xs k ≡ Ok tt → Each (λ x f. entry x ≡ Ok tt) xs fs
