@@ -1,50 +1,15 @@
--- One turn of a loop that looks for the first refusal: what is left still gives the whole answer.
-use Rattle.std.proofs.Common.{◌≡◌, ℕ, ◌+◌, ◌<◌, ◌≤◌, List, [], ◌∷◌, length, get_or, drop, Ok, Err, Result, sym, refl, ap, ◌∙◌, ap₂, arith}
-use Rattle.std.proofs.lemmas.List.{drop_more, drop_all}
+-- The first refusal: of one check after the other, and of a phase that accepts.
+use Rattle.std.proofs.Common.{◌≡◌, ℕ, ◌+◌, List, [], ◌∷◌, length, Ok, Err, Result, refl, ap, ◌∙◌, arith}
 use Rattle.market.specs.declared.refusal.Refusal.{Refusal}
 use Rattle.market.specs.First.{then}
 use Rattle.verdict.specs.Walks.{first_in, first_filled}
 use Rattle.verdict.specs.Each.{Each}
 
-module _ {X : Type 0} (check : X → ℕ → Result Unit Refusal) (xs : List X) (i k : ℕ) (d : X) (all : Result Unit Refusal)
-    (left : first_in check (drop i xs) k ≡ all) where
-  here : i < length xs → then (check (get_or xs i d) k) (first_in check (drop (i + 1) xs) (k + 1)) ≡ all
-  here h = sym (ap (λ (l : List X). first_in check l k) (drop_more xs i d h)) ∙ left
-
-  pub first_again : i < length xs → (u : Unit) (k' : ℕ) → k' ≡ k + 1 → Ok u ≡ check (get_or xs i d) k → first_in check (drop (i + 1) xs) k' ≡ all
-  first_again h u k' e p =
-      ap (λ (n : ℕ). first_in check (drop (i + 1) xs) n) e
-      ∙ ap (λ (r : Result Unit Refusal). then r (first_in check (drop (i + 1) xs) (k + 1))) p
-      ∙ here h
-
-  pub first_stops : i < length xs → (e : Refusal) → Err e ≡ check (get_or xs i d) k → Err e ≡ all
-  first_stops h e p = ap (λ (r : Result Unit Refusal). then r (first_in check (drop (i + 1) xs) (k + 1))) p ∙ here h
-
-pub first_done : {X : Type 0} (check : X → ℕ → Result Unit Refusal) (xs : List X) (i k : ℕ) (all : Result Unit Refusal) → first_in check (drop i xs) k ≡ all → length xs ≤ i → (u : Unit) → Ok u ≡ all
-first_done {X} check xs i k all left h u = sym (ap (λ (l : List X). first_in check l k) (drop_all i xs h)) ∙ left
-
-module _ {X : Type 0} (check : X → ℕ → ℕ → Result Unit Refusal) (xs : List X) (fs : List ℕ) (i k : ℕ) (d : X) (all : Result Unit Refusal)
-    (same : length xs ≡ length fs) (left : first_filled check (drop i xs) (drop i fs) k ≡ all) where
-  here' : i < length xs → then (check (get_or xs i d) (get_or fs i 0) k) (first_filled check (drop (i + 1) xs) (drop (i + 1) fs) (k + 1)) ≡ all
-  here' h = sym (ap₂ (λ (l : List X) (m : List ℕ). first_filled check l m k) (drop_more xs i d h) (drop_more fs i 0 (omega arith))) ∙ left
-
-  pub filled_again : i < length xs → (u : Unit) (k' : ℕ) → k' ≡ k + 1 → Ok u ≡ check (get_or xs i d) (get_or fs i 0) k → first_filled check (drop (i + 1) xs) (drop (i + 1) fs) k' ≡ all
-  filled_again h u k' e p =
-      ap (λ (n : ℕ). first_filled check (drop (i + 1) xs) (drop (i + 1) fs) n) e
-      ∙ ap (λ (r : Result Unit Refusal). then r (first_filled check (drop (i + 1) xs) (drop (i + 1) fs) (k + 1))) p
-      ∙ here' h
-
-  pub filled_stops : i < length xs → (e : Refusal) → Err e ≡ check (get_or xs i d) (get_or fs i 0) k → Err e ≡ all
-  filled_stops h e p = ap (λ (r : Result Unit Refusal). then r (first_filled check (drop (i + 1) xs) (drop (i + 1) fs) (k + 1))) p ∙ here' h
-
-pub filled_done : {X : Type 0} (check : X → ℕ → ℕ → Result Unit Refusal) (xs : List X) (fs : List ℕ) (i k : ℕ) (all : Result Unit Refusal) → first_filled check (drop i xs) (drop i fs) k ≡ all → length xs ≤ i → (u : Unit) → Ok u ≡ all
-filled_done {X} check xs fs i k all left h u = sym (ap (λ (l : List X). first_filled check l (drop i fs) k) (drop_all i xs h)) ∙ left
-
 -- ---- one check after the other
 
 pub then_ok : {X : Type 0} (r : Result Unit Refusal) (s : Result X Refusal) (x : X) → then r s ≡ Ok x → (r ≡ Ok tt) × (s ≡ Ok x)
 then_ok (Ok u) s x e = (refl, e)
-then_ok (Err f) s x e = let z : ◌≡◌ {A = ℕ} 0 1 = cc in absurd (omega arith)
+then_ok (Err f) s x e = (cc, cc)
 
 pub then_both : {X : Type 0} (r : Result Unit Refusal) (s t : Result X Refusal) → r ≡ Ok tt → s ≡ t → then r s ≡ t
 then_both {X} r s t e h = ap (λ (u : Result Unit Refusal). then u s) e ∙ h

@@ -1,6 +1,6 @@
 -- What an accepted phase gives to the next ones.
-use Rattle.std.proofs.Common.{◌≡◌, ℕ, ◌≤◌, true, ◌&&◌, eqb, leb, List, [], ◌∷◌, length, Ok, Err, Result, refl, ◌∙◌, arith}
-use Rattle.std.proofs.lemmas.Bool.{and_parts, and_from, leb-true, le-leb, eqb-true, eq-eqb}
+use Rattle.std.proofs.Common.{◌≡◌, ℕ, ◌≤◌, true, ◌&&◌, leb, List, [], ◌∷◌, length, Ok, Err, Result, refl, ◌∙◌, arith}
+use Rattle.std.proofs.lemmas.Bool.Decides.{nat_tests}
 use Rattle.market.specs.declared.records.Order.{Order}
 use Rattle.market.specs.declared.records.Block.{Block}
 use Rattle.market.specs.declared.records.Interval.{Interval}
@@ -21,21 +21,13 @@ use Rattle.verdict.proofs.Sizes.{fill_small, span_small}
 pub sized_from : (n : ℕ) (os : List Order) (fs : List ℕ) (bs : List Block) (gs : List ℕ) → paper_lengths n os fs bs gs ≡ Ok tt → (n ≤ 100) × Sized os fs bs gs
 sized_from n os fs bs gs e =
     let t : (leb n 100 && lengths_ok os fs bs gs) ≡ true = (tests_out (((leb n 100 && lengths_ok os fs bs gs), _) ∷ []) e).0 in
-    let p = and_parts (leb n 100) (lengths_ok os fs bs gs) t in
-    let q = and_parts (eqb (length os) (length fs)) (eqb (length bs) (length gs) && (leb (length os) 1024 && leb (length bs) 64)) p.1 in
-    let r = and_parts (eqb (length bs) (length gs)) (leb (length os) 1024 && leb (length bs) 64) q.1 in
-    let s = and_parts (leb (length os) 1024) (leb (length bs) 64) r.1 in
-    (leb-true _ _ p.0, record { orders = eqb-true _ _ q.0; blocks = eqb-true _ _ r.0; few = leb-true _ _ s.0; fewer = leb-true _ _ s.1 })
+    (grind (arith, nat_tests), record { orders = grind (arith, nat_tests); blocks = grind (arith, nat_tests); few = grind (arith, nat_tests); fewer = grind (arith, nat_tests) })
 
 pub fits_from : (day : List Interval) (os : List Order) (fs : List ℕ) (bs : List Block) (gs : List ℕ) → lengths day os fs bs gs ≡ Ok tt → Fits day os fs bs gs
 fits_from day os fs bs gs e = let p = sized_from (length day) os fs bs gs e in record { short = p.0; sized = p.1 }
 
 pub fits_test : (day : List Interval) (os : List Order) (fs : List ℕ) (bs : List Block) (gs : List ℕ) → Fits day os fs bs gs → (leb (length day) 100 && lengths_ok os fs bs gs) ≡ true
-fits_test day os fs bs gs h =
-    and_from (leb (length day) 100) (lengths_ok os fs bs gs) (le-leb _ _ h.short)
-    (and_from (eqb (length os) (length fs)) (eqb (length bs) (length gs) && (leb (length os) 1024 && leb (length bs) 64)) (eq-eqb _ _ h.sized.orders)
-    (and_from (eqb (length bs) (length gs)) (leb (length os) 1024 && leb (length bs) 64) (eq-eqb _ _ h.sized.blocks)
-    (and_from (leb (length os) 1024) (leb (length bs) 64) (le-leb _ _ h.sized.few) (le-leb _ _ h.sized.fewer))))
+fits_test day os fs bs gs h = let z = h.sized in grind (arith, nat_tests)
 
 pub fits_back : (day : List Interval) (os : List Order) (fs : List ℕ) (bs : List Block) (gs : List ℕ) → Fits day os fs bs gs → lengths day os fs bs gs ≡ Ok tt
 fits_back day os fs bs gs h = tests_back ((leb (length day) 100 && lengths_ok os fs bs gs, _) ∷ []) (fits_test day os fs bs gs h, tt)
@@ -43,7 +35,7 @@ fits_back day os fs bs gs h = tests_back ((leb (length day) 100 && lengths_ok os
 -- ---- the bounds of entry
 pub outside_out : (k : ℕ) (r : Result Unit Refusal) → outside k r ≡ Ok tt → r ≡ Ok tt
 outside_out k (Ok u) e = refl
-outside_out k (Err d) e = let z : ◌≡◌ {A = ℕ} 0 1 = cc in absurd (omega arith)
+outside_out k (Err d) e = cc
 
 module _ {X : Type 0} (entry : X → Result Unit Refusal) where
   pub entered : (xs : List X) (fs : List ℕ) (k : ℕ) → length xs ≡ length fs → first_in (λ x n. outside n (entry x)) xs k ≡ Ok tt → Each (λ x f. entry x ≡ Ok tt) xs fs
@@ -60,9 +52,6 @@ module _ (n : ℕ) (os : List Order) (fs : List ℕ) (bs : List Block) (gs : Lis
   -- what the rules of the price ask of the book
   pub orders_in_day : Each (λ o f. in_day n o.interval ≡ true) os fs
   orders_in_day = each_map _ _ (λ o f e. (order_tests n o e).interval) os fs orders_entered
-
-  pub blocks_in_order : n ≤ 100 → Each (λ b f. (n ≤ 100) × (block_bounds n b ≡ Ok tt)) bs gs
-  blocks_in_order h = each_map _ _ (λ b f e. (h, e)) bs gs blocks_entered
 
   -- what the welfare asks of the paper
   module _ (q : quantities os fs bs gs ≡ Ok tt) where

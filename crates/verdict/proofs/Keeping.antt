@@ -1,8 +1,9 @@
 -- Each test of the verdict passes exactly where its rule is kept.
-use Rattle.std.proofs.Common.{◌≡◌, ℕ, zero, suc, ◌<◌, Bool, true, false, not, ◌&&◌, ◌||◌, eqb, ◌⊎◌, List, [], ◌∷◌, ℤ, pos, ◌*ℤ◌, ◌≤ℤ◌, ◌<ℤ◌, Ok, Err, sym, refl, ◌∙◌, inl, inr, ⊎_elim, arith}
-use lib.Signed.{le_z, lt_z}
+use Rattle.std.proofs.Common.{◌≡◌, ℕ, ◌<◌, Bool, true, false, not, ◌||◌, eqb, ◌⊎◌, List, [], ◌∷◌, ℤ, ◌*ℤ◌, ◌≤ℤ◌, Ok, Err, sym, refl, ◌∙◌, inl, inr, arith}
+use lib.Signed.{le_z}
 use borrow.Author.Differences.{ints}
-use Rattle.std.proofs.lemmas.Bool.{and_parts, and_from, or_cases, or_right, false≢true, eqb-true, eq-eqb}
+use Rattle.std.proofs.lemmas.Bool.Decides.{nat_tests}
+use Rattle.std.proofs.lemmas.Bool.{false≢true}
 use Rattle.market.specs.declared.records.Side.{Side}
 use Rattle.market.specs.declared.records.Side.TheVariants.{Sell, Buy}
 use Rattle.market.specs.declared.records.Order.{Order}
@@ -22,14 +23,8 @@ is_le a b h = sym (omega (arith, ints))
 pub le_is : (a b : ℤ) → le_z a b ≡ true → a ≤ℤ b
 le_is a b h = omega (arith, ints)
 
-is_lt : (a b : ℤ) → a <ℤ b → lt_z a b ≡ true
-is_lt a b h = sym (omega (arith, ints))
-
-lt_is : (a b : ℤ) → lt_z a b ≡ true → a <ℤ b
-lt_is a b h = omega (arith, ints)
-
 from_to : (low high z : ℤ) → FromTo low high z → B.within_range low high z ≡ true
-from_to low high z h = and_from (le_z low z) (le_z z high) (is_le low z h.0) (is_le z high h.1)
+from_to low high z h = grind (arith, ints)
 
 -- ---- the bounds of entry
 pub order_out : (n : ℕ) (o : Order) → B.order_bounds n o ≡ Ok tt → LawfulOrder n o
@@ -47,60 +42,46 @@ order_back n o l =
 pub block_out : (n : ℕ) (b : Block) → B.block_bounds n b ≡ Ok tt → LawfulBlock n b
 block_out n b e =
     let t = block_tests n b e in
-    let q = and_parts (B.in_day n b.first) (B.in_day n b.last && le_z b.first b.last) t.spans in
-    let r = and_parts (B.in_day n b.last) (le_z b.first b.last) q.1 in
+    let spans = t.spans in
     record {
-      starts = between_two _ _ _ q.0;
-      ends = between_two _ _ _ r.0;
-      onward = le_is _ _ r.1;
+      starts = grind (arith, ints, nat_tests);
+      ends = grind (arith, ints, nat_tests);
+      onward = grind (arith, ints, nat_tests);
       terms = record { priced = between_two _ _ _ t.limit; sized = between_two _ _ _ t.quantity; owned = between_two _ _ _ t.account };
       share = between_two _ _ _ t.least;
     }
 
 pub block_back : (n : ℕ) (b : Block) → LawfulBlock n b → B.block_bounds n b ≡ Ok tt
 block_back n b l =
-    tests_back (B.block_table n b) (
-      and_from (B.in_day n b.first) (B.in_day n b.last && le_z b.first b.last) (from_to _ _ _ l.starts)
-          (and_from (B.in_day n b.last) (le_z b.first b.last) (from_to _ _ _ l.ends) (is_le _ _ l.onward)),
-      (from_to _ _ _ l.terms.priced, (from_to _ _ _ l.terms.sized, (from_to _ _ _ l.share, (from_to _ _ _ l.terms.owned, tt)))),
-    )
+    let starts = l.starts in
+    let ends = l.ends in
+    let onward = l.onward in
+    tests_back (B.block_table n b) (grind (arith, ints, nat_tests), (from_to _ _ _ l.terms.priced, (from_to _ _ _ l.terms.sized, (from_to _ _ _ l.share, (from_to _ _ _ l.terms.owned, tt)))))
 
--- ---- an implication as a test
-implies_out : (a b : Bool) → (not a || b) ≡ true → a ≡ true → b ≡ true
-implies_out true b e h = e
-implies_out false b e h = absurd (false≢true h)
-
-implies_back : (a b : Bool) → (a ≡ true → b ≡ true) → (not a || b) ≡ true
-implies_back true b h = h refl
-implies_back false b h = refl
-
-zero_not : (f : ℕ) → 0 < f → f ≡ 0 → ⊥
-zero_not f h e = omega arith
-
+-- ---- a test of a filled entry
 unless_out : (f : ℕ) (b : Bool) → (eqb f 0 || b) ≡ true → 0 < f → b ≡ true
-unless_out f b e h = ⊎_elim (λ p. absurd (zero_not f h (eqb-true f 0 p))) (λ p. p) (or_cases (eqb f 0) b e)
+unless_out f b e h = grind (arith, nat_tests)
 
 unless_back : (f : ℕ) (b : Bool) → (0 < f → b ≡ true) → (eqb f 0 || b) ≡ true
-unless_back zero b h = refl
-unless_back (suc f) b h = or_right (eqb (suc f) 0) b (h (omega arith))
+unless_back f b h = grind (arith, nat_tests)
 
 -- ---- the rule of the orders
 module _ (l p : ℤ) (f : ℕ) where
   pub empty_out : (s : Side) → (not (R.misses s l p) || eqb f 0) ≡ true → EmptyIfWorse s l p f
-  empty_out Sell e = λ h. eqb-true f 0 (implies_out (lt_z p l) (eqb f 0) e (is_lt p l h))
-  empty_out Buy e = λ h. eqb-true f 0 (implies_out (lt_z l p) (eqb f 0) e (is_lt l p h))
+  empty_out Sell e = λ h. grind (arith, ints, nat_tests)
+  empty_out Buy e = λ h. grind (arith, ints, nat_tests)
 
   pub empty_back : (s : Side) → EmptyIfWorse s l p f → (not (R.misses s l p) || eqb f 0) ≡ true
-  empty_back Sell r = implies_back (lt_z p l) (eqb f 0) (λ e. eq-eqb f 0 (r (lt_is p l e)))
-  empty_back Buy r = implies_back (lt_z l p) (eqb f 0) (λ e. eq-eqb f 0 (r (lt_is l p e)))
+  empty_back Sell r = grind (arith, ints, nat_tests)
+  empty_back Buy r = grind (arith, ints, nat_tests)
 
   pub full_out : (s : Side) (q : ℤ) → (not (R.beats s l p) || R.full q f) ≡ true → FullIfBetter s l p q f
-  full_out Sell q e = λ h. le_is (R.thousandths q) (pos f) (implies_out (lt_z l p) (R.full q f) e (is_lt l p h))
-  full_out Buy q e = λ h. le_is (R.thousandths q) (pos f) (implies_out (lt_z p l) (R.full q f) e (is_lt p l h))
+  full_out Sell q e = λ h. grind (arith, ints, nat_tests)
+  full_out Buy q e = λ h. grind (arith, ints, nat_tests)
 
   pub full_back : (s : Side) (q : ℤ) → FullIfBetter s l p q f → (not (R.beats s l p) || R.full q f) ≡ true
-  full_back Sell q r = implies_back (lt_z l p) (R.full q f) (λ e. is_le (R.thousandths q) (pos f) (r (lt_is l p e)))
-  full_back Buy q r = implies_back (lt_z p l) (R.full q f) (λ e. is_le (R.thousandths q) (pos f) (r (lt_is p l e)))
+  full_back Sell q r = grind (arith, ints, nat_tests)
+  full_back Buy q r = grind (arith, ints, nat_tests)
 
 -- ---- the rules of the blocks
 pays_out : (s : Side) (l p : ℤ) → R.pays s l p ≡ true → Pays s l p
@@ -113,10 +94,10 @@ pays_back Buy l p h = is_le p l h
 
 module _ (b : Block) (f : ℕ) where
   pub least_out : (eqb f 0 || R.enough b f) ≡ true → BlockMeetsLeast b f
-  least_out e h = le_is _ _ (unless_out f (R.enough b f) e h)
+  least_out e h = grind (arith, ints, nat_tests)
 
   pub least_back : BlockMeetsLeast b f → (eqb f 0 || R.enough b f) ≡ true
-  least_back r = unless_back f (R.enough b f) (λ h. is_le _ _ (r h))
+  least_back r = grind (arith, ints, nat_tests)
 
   module _ (day : List Interval) where
     abbrev pub paid : Bool
@@ -130,7 +111,7 @@ module _ (b : Block) (f : ℕ) where
 
 -- ---- a table of one test, and of two
 pub one_err : (a : Bool) (d e : Refusal) → tests ((a, d) ∷ []) ≡ Err e → (a ≡ false) × (e ≡ d)
-one_err true d e p = let z : ◌≡◌ {A = ℕ} 0 1 = cc in absurd (omega arith)
+one_err true d e p = (cc, cc)
 one_err false d e p = (refl, cc)
 
 pub two_err : (a b : Bool) (c d e : Refusal) → tests ((a, c) ∷ (b, d) ∷ []) ≡ Err e → ((a ≡ false) × (e ≡ c)) ⊎ ((a ≡ true) × (b ≡ false) × (e ≡ d))

@@ -1,7 +1,6 @@
 pub mod Firsts
+pub mod Spent
 pub mod Eachs
-pub mod Sums
-pub mod Products
 pub mod Sizes
 pub mod Judging
 pub mod Keeping

@@ -3,10 +3,11 @@ use Rattle.std.proofs.Common.{◌≡◌, ℕ, zero, suc, ◌+◌, ◌<◌, List,
 use Rattle.market.specs.declared.refusal.Refusal.{Refusal}
 use Rattle.market.specs.First.{then}
 use Rattle.verdict.specs.Walks.{first_in, first_filled}
+use Rattle.std.proofs.lemmas.Bool.{true≢false}
 use Rattle.verdict.proofs.Firsts.{in_filled}
 
 pub never : {X : Type 0} (x : X) (e : Refusal) → ◌≡◌ {A = Result X Refusal} (Ok x) (Err e) → ⊥
-never x e p = let z : ◌≡◌ {A = ℕ} 0 1 = cc in omega arith
+never x e p = true≢false cc
 
 module _ {X : Type 0} (check : X → ℕ → ℕ → Result Unit Refusal) (d : X) where
   -- the check refuses the entry at a place, and accepts every earlier one

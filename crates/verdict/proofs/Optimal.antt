@@ -6,7 +6,9 @@ use Rattle.market.specs.declared.records.Side.{Side}
 use Rattle.market.specs.declared.records.Side.TheVariants.{Sell, Buy}
 use Rattle.market.specs.declared.records.Order.{Order}
 use Rattle.market.specs.Bounds.{same}
-use Rattle.verdict.specs.Balance.{sale, worth, order_sale, order_worth}
+use Rattle.market.specs.Kinds.{orders}
+use Rattle.market.specs.Signed.{signed}
+use Rattle.verdict.specs.Balance.{worth, sale_in, order_worth}
 use Rattle.verdict.specs.Sums.{sum_filled}
 use Rattle.market.proofs.Facts.{same_yes, same_no}
 use Rattle.verdict.proofs.Ring.{add-mul, mul-add, neg-mul, mul-neg}
@@ -22,7 +24,7 @@ abbrev welfare : List Order → List ℕ → ℤ
 welfare os fs = sum_filled order_worth os fs
 
 abbrev net : ℕ → List Order → List ℕ → ℤ
-net t os fs = sum_filled (order_sale t) os fs
+net t os fs = sum_filled (sale_in orders t) os fs
 
 abbrev pub Rules : Side → ℤ → ℕ → ℤ → ℕ → Type 0
 Rules Sell l q p f = (p <ℤ l → f ≡ 0) × (l <ℤ p → f ≡ q)
@@ -46,7 +48,7 @@ abbrev edge : Side → ℤ → ℤ → ℤ
 edge Sell l p = p -ℤ l
 edge Buy l p = l -ℤ p
 
-worth_is : (s : Side) (l p : ℤ) (f : ℕ) → worth s l f ≡ edge s l p *ℤ pos f -ℤ p *ℤ sale s f
+worth_is : (s : Side) (l p : ℤ) (f : ℕ) → worth s l f ≡ edge s l p *ℤ pos f -ℤ p *ℤ signed s f
 worth_is Sell l p f = simp (add-mul, neg-mul) (omega (arith, ints))
 worth_is Buy l p f = simp (add-mul, neg-mul, mul-neg) (omega (arith, ints))
 
@@ -95,7 +97,7 @@ gains p (o ∷ os) (f ∷ fs) = edge o.side o.limit (p (at o)) *ℤ pos f +ℤ g
 abbrev paid : (ℕ → ℤ) → List Order → List ℕ → ℤ
 paid p [] fs = pos 0
 paid p (o ∷ os) [] = pos 0
-paid p (o ∷ os) (f ∷ fs) = p (at o) *ℤ sale o.side f +ℤ paid p os fs
+paid p (o ∷ os) (f ∷ fs) = p (at o) *ℤ signed o.side f +ℤ paid p os fs
 
 welfare_is : (p : ℕ → ℤ) (os : List Order) (fs : List ℕ) → welfare os fs ≡ gains p os fs -ℤ paid p os fs
 welfare_is p [] fs = refl
@@ -176,8 +178,8 @@ paid_is p n (o ∷ os) [] d = sym (sum_to_zero n p)
 paid_is p n (o ∷ os) (f ∷ fs) d =
     let a = d.0.0 in
     let b = d.0.1 in
-    ap (λ (z : ℤ). p (at o) *ℤ sale o.side f +ℤ z) (paid_is p n os fs d.1)
-    ∙ sym (one_in p (λ t. net t os fs) (at o) (sale o.side f) (λ t. same o.interval (pos t)) (hits o a) (misses o a) n (omega (arith, ints, abs_is o.interval)) (omega (arith, ints, abs_is o.interval)))
+    ap (λ (z : ℤ). p (at o) *ℤ signed o.side f +ℤ z) (paid_is p n os fs d.1)
+    ∙ sym (one_in p (λ t. net t os fs) (at o) (signed o.side f) (λ t. same o.interval (pos t)) (hits o a) (misses o a) n (omega (arith, ints, abs_is o.interval)) (omega (arith, ints, abs_is o.interval)))
 
 paid_same : (p : ℕ → ℤ) (n : ℕ) (os : List Order) (fs gs : List ℕ) → InDay n os → ((t : ℕ) → 1 ≤ t → t ≤ n → net t os fs ≡ net t os gs) → paid p os fs ≡ paid p os gs
 paid_same p n os fs gs d e =

@@ -11,7 +11,8 @@ use Rattle.market.specs.declared.refusal.Refusal.{Refusal}
 use Rattle.market.specs.Blank.{fresh}
 use Rattle.verdict.specs.Each.{Each}
 use Rattle.verdict.specs.Sums.{sum_filled}
-use Rattle.verdict.specs.Balance.{order_sale, net_of}
+use Rattle.market.specs.Kinds.{orders}
+use Rattle.verdict.specs.Balance.{sale_in, net_of}
 use Rattle.verdict.specs.Passes.{LawfulOrder, LawfulBook, WithinQuantity, EmptyIfWorse, FullIfBetter, OrderMeetsPrice, Balanced, Passes}
 use Rattle.verdict.specs.Broken.{Judged}
 use Rattle.verdict.specs.Best.{Best, BestIfPassed}
@@ -70,7 +71,7 @@ module _ (day : List Interval) where
 
   -- papers that both balance, with the same fills of the blocks, sell as much by orders in each interval
   same_sales : (os : List Order) (fs hs : List ℕ) (bs : List Block) (gs : List ℕ) → Balanced day os fs bs gs → Balanced day os hs bs gs
-      → (t : ℕ) → 1 ≤ t → t ≤ length day → sum_filled (order_sale t) os hs ≡ sum_filled (order_sale t) os fs
+      → (t : ℕ) → 1 ≤ t → t ≤ length day → sum_filled (sale_in orders t) os hs ≡ sum_filled (sale_in orders t) os fs
   same_sales os fs hs bs gs p r t a b =
       let e : net_of (1 + (t - 1)) os hs bs gs ≡ net_of (1 + (t - 1)) os fs bs gs = r (t - 1) (omega arith) ∙ sym (p (t - 1) (omega arith)) in
       let at : 1 + (t - 1) ≡ t = omega arith in

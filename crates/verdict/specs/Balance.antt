@@ -9,25 +9,18 @@ use Rattle.market.specs.declared.refusal.Refusal.{Refusal}
 use Rattle.market.specs.declared.refusal.Refusal.TheVariants.{Unbalanced}
 use Rattle.market.specs.First.{tests}
 use Rattle.verdict.specs.Sums.{sum_filled}
-use Rattle.market.specs.Bounds.{same, within_range}
+use Rattle.market.specs.Bounds.{same}
+use Rattle.market.specs.Kinds.{Kind, orders, blocks}
+use Rattle.market.specs.Signed.{signed}
 use Rattle.verdict.specs.Rules.{span}
 
--- what a fill adds to sales less purchases
-abbrev pub sale : Side → ℕ → ℤ
-sale Sell f = pos f
-sale Buy f = neg_ℤ (pos f)
-
--- what an order adds in the interval t
-abbrev pub order_sale : ℕ → Order → ℕ → ℤ
-order_sale t o f = cond (same o.interval (pos t)) (sale o.side f) (pos 0)
-
--- what a block adds in the interval t, if it covers it
-abbrev pub block_sale : ℕ → Block → ℕ → ℤ
-block_sale t b f = cond (within_range b.first b.last (pos t)) (sale b.side f) (pos 0)
+-- what an entry's fill adds to sales less purchases in the interval t, if the entry is of it
+abbrev pub sale_in : {X : Type 0} → Kind X → ℕ → X → ℕ → ℤ
+sale_in kind t x f = cond (kind.covers x t) (signed (kind.side x) f) (pos 0)
 
 -- sales less purchases in the interval t, blocks included
 abbrev pub net_of : ℕ → List Order → List ℕ → List Block → List ℕ → ℤ
-net_of t os fs bs gs = sum_filled (order_sale t) os fs +ℤ sum_filled (block_sale t) bs gs
+net_of t os fs bs gs = sum_filled (sale_in orders t) os fs +ℤ sum_filled (sale_in blocks t) bs gs
 
 -- 18: sales less purchases are the net position of the interval t
 abbrev pub interval_balance : List Order → List ℕ → List Block → List ℕ → Interval → ℕ → Result Unit Refusal

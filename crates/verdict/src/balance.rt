@@ -1,22 +1,12 @@
 // Sales less purchases, interval by interval.
-ghost use Rattle.std.specs.Prelude.{◌≡◌, ℕ, ◌≤◌, length};
-ghost use Rattle.verdict.specs.Balance.{sale as sale_of, order_sale, block_sale, net_of, interval_balance};
-ghost use Rattle.verdict.specs.Sums.{Bounded};
-ghost use Rattle.verdict.specs.Verdict.{Sized};
+ghost use Rattle.std.specs.Prelude.{◌≡◌};
+ghost use Rattle.verdict.specs.Balance.{sale_in, net_of, interval_balance};
 
+use super::paper::Paper;
 use super::walk::{Amount, Check, sum_of};
-use market::records::{Block, Interval, Order, Side};
+use market::entry::Entry;
+use market::records::Interval;
 use market::refusal::Refusal;
-
-fn sale(side: Side, fill: u32) -> i64
-    ensures is { result ≡ sale_of side fill }
-    ensures small { Bounded 40000000000000 result }
-{
-    match side {
-        Side::Sell => fill as i64,
-        Side::Buy => -(fill as i64),
-    }
-}
 
 /// What an entry sells in one interval; a purchase counts minus.
 #[derive(Drop)]
@@ -24,75 +14,40 @@ struct Sales {
     interval: u32,
 }
 
-impl Amount<Order> for Sales {
+impl<E: Entry> Amount<E> for Sales {
     ghost may = { λ _ _ _. Unit {0} };
 
-    ghost gives = { λ s o f. order_sale s.interval o f };
+    ghost gives = { λ s x f. sale_in E.kind s.interval x f };
 
-    fn amount(&self, x: &Order, fill: u32) -> i64 {
-        if x.interval as i64 == self.interval as i64 {
-            sale(x.side, fill)
+    fn amount(&self, x: &E, fill: u32) -> i64 {
+        if x.covers(self.interval) {
+            x.side().signed(fill)
         } else {
             0
         }
     }
 }
 
-impl Amount<Block> for Sales {
-    ghost may = { λ _ _ _. Unit {0} };
-
-    ghost gives = { λ s b f. block_sale s.interval b f };
-
-    fn amount(&self, x: &Block, fill: u32) -> i64 {
-        let interval = self.interval as i64;
-        if x.first as i64 <= interval && interval <= x.last as i64 {
-            sale(x.side, fill)
-        } else {
-            0
-        }
+impl<'a, 'b> Paper<'a, 'b> {
+    // Sales less purchases in one interval.
+    #[tactic(auto, using(crate::proofs::Eachs::each_none))]
+    fn net_of(&self, interval: u32) -> i64
+        ensures { result ≡ net_of interval self.now.book.orders.now self.now.fills.orders.now self.now.book.blocks.now self.now.fills.blocks.now }
+    {
+        let sales = Sales { interval };
+        sum_of(&sales, self.book.orders, self.fills.orders)
+            + sum_of(&sales, self.book.blocks, self.fills.blocks)
     }
 }
 
 /// 18: sales less purchases of a paper are the net position of the interval.
-#[derive(Drop)]
-pub(crate) struct Balance<'a> {
-    pub orders: &'a [Order],
-    pub order_fills: &'a [u32],
-    pub blocks: &'a [Block],
-    pub block_fills: &'a [u32],
-}
-
-fn net_of(
-    orders: &[Order],
-    order_fills: &[u32],
-    blocks: &[Block],
-    block_fills: &[u32],
-    interval: u32,
-) -> i64
-    requires { Sized orders.now order_fills.now blocks.now block_fills.now }
-    ensures { result ≡ net_of interval orders.now order_fills.now blocks.now block_fills.now }
-{
-    let sales = Sales { interval };
-    sum_of(&sales, orders, order_fills) + sum_of(&sales, blocks, block_fills)
-}
-
-impl<'a> Check<Interval> for Balance<'a> {
-    ghost ready = { λ p. Sized p.orders.now p.order_fills.now p.blocks.now p.block_fills.now };
-
-    ghost answer = { λ p x t. interval_balance p.orders.now p.order_fills.now p.blocks.now p.block_fills.now x t };
+impl<'a, 'b> Check<Interval> for Paper<'a, 'b> {
+    ghost answer = { λ p x t. interval_balance p.book.orders.now p.fills.orders.now p.book.blocks.now p.fills.blocks.now x t };
 
     fn check(&self, x: &Interval, number: u32) -> Result<(), Refusal> {
-        let net = net_of(
-            self.orders,
-            self.order_fills,
-            self.blocks,
-            self.block_fills,
-            number,
-        );
-        if net == x.net as i64 {
-            Ok(())
-        } else {
-            Err(Refusal::Unbalanced { interval: number })
+        if self.net_of(number) != i64::from(x.net) {
+            return Err(Refusal::Unbalanced { interval: number });
         }
+        Ok(())
     }
 }

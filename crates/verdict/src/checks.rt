@@ -1,40 +1,29 @@
 // The first phases of the verdict alone, for calls that work on a paper or on a book.
-ghost use Rattle.std.specs.Prelude.{◌≡◌, length};
-ghost use Rattle.verdict.specs.Verdict.{paper_checks, book_checks, book_lengths_ok};
+ghost use Rattle.std.specs.Prelude.{◌≡◌};
+ghost use Rattle.verdict.specs.Verdict.{paper_checks, book_checks};
 
-use super::phases::{MOST_BLOCKS, MOST_INTERVALS, MOST_ORDERS, bounds, lengths, quantities};
-use market::records::{Block, Order};
+use super::paper::{Paper, has_lawful_lengths};
+use super::phases::bounds;
+use market::records::{Book, Fills};
 use market::refusal::Refusal;
 
 /// 11 for more than 100 intervals, 1,024 orders or 64 blocks, or another number of fills than of entries; 12 for a record outside
 /// the bounds of entry of a day of so many intervals; 13 for a fill above its quantity.
-pub fn check_paper(
-    intervals: usize,
-    orders: &[Order],
-    order_fills: &[u32],
-    blocks: &[Block],
-    block_fills: &[u32],
-) -> Result<(), Refusal>
-    ensures { result ≡ paper_checks intervals orders.now order_fills.now blocks.now block_fills.now }
+pub fn check_paper(intervals: usize, book: Book<'_>, fills: Fills<'_>) -> Result<(), Refusal>
+    ensures { result ≡ paper_checks intervals book.entry.orders.now fills.entry.orders.now book.entry.blocks.now fills.entry.blocks.now }
 {
-    lengths(intervals, orders, order_fills, blocks, block_fills)?;
-    bounds(intervals, orders, blocks)?;
-    quantities(orders, order_fills, blocks, block_fills)
-}
-
-fn has_lawful_lengths(intervals: usize, orders: &[Order], blocks: &[Block]) -> bool
-    ensures { result ≡ book_lengths_ok intervals orders.now blocks.now }
-{
-    intervals <= MOST_INTERVALS && orders.len() <= MOST_ORDERS && blocks.len() <= MOST_BLOCKS
+    let paper = Paper::new(intervals, book, fills)?;
+    bounds(intervals, book)?;
+    paper.check_quantities()
 }
 
 /// 11 for more than 100 intervals, 1,024 orders or 64 blocks; 12 for a record outside the bounds of entry of a day of so many
 /// intervals.
-pub fn check_book(intervals: usize, orders: &[Order], blocks: &[Block]) -> Result<(), Refusal>
-    ensures { result ≡ book_checks intervals orders.now blocks.now }
+pub fn check_book(intervals: usize, book: Book<'_>) -> Result<(), Refusal>
+    ensures { result ≡ book_checks intervals book.entry.orders.now book.entry.blocks.now }
 {
-    if !has_lawful_lengths(intervals, orders, blocks) {
+    if !has_lawful_lengths(intervals, book) {
         return Err(Refusal::Short);
     }
-    bounds(intervals, orders, blocks)
+    bounds(intervals, book)
 }

@@ -1,148 +1,69 @@
 // The phases of the verdict, one after the other.
-ghost use Rattle.std.specs.Prelude.{◌≡◌, ℕ, ◌+◌, ◌≤◌, length, Ok};
-ghost use Rattle.verdict.specs.Verdict.{paper_lengths as lengths_of, lengths_ok, bounds as bounds_of, quantities as quantities_of, prices as prices_of};
-ghost use Rattle.verdict.specs.Verdict.{balances as balances_of, verdict_of, Sized};
-ghost use Rattle.verdict.specs.Balance.{welfare as welfare_of};
+ghost use Rattle.std.specs.Prelude.{◌≡◌, ◌≤◌, length, Ok};
+ghost use Rattle.verdict.specs.Verdict.{bounds, quantities, prices, balances, verdict_of};
+ghost use Rattle.verdict.specs.Balance.{welfare};
 
-use super::balance::Balance;
-use super::rules::{Bounds, Prices, Quantities};
+use super::paper::{Paper, next_entry};
+use super::rules::{Bounds, Prices};
 use super::walk::{first_broken, first_refused, sum_of};
 use super::welfare::Worths;
-use market::records::{Block, Interval, Order};
+use market::records::{Book, Fills, Interval};
 use market::refusal::Refusal;
 
-pub(crate) const MOST_INTERVALS: usize = 100;
-
-pub(crate) const MOST_ORDERS: usize = 1024;
-
-pub(crate) const MOST_BLOCKS: usize = 64;
-
-fn has_lawful_lengths(
-    orders: &[Order],
-    order_fills: &[u32],
-    blocks: &[Block],
-    block_fills: &[u32],
-) -> bool
-    ensures { result ≡ lengths_ok orders.now order_fills.now blocks.now block_fills.now }
+/// 12: the bounds of entry, in a day of so many intervals.
+pub(crate) fn bounds(intervals: usize, book: Book<'_>) -> Result<(), Refusal>
+    requires { (length book.orders.now ≤ 1024) × (length book.blocks.now ≤ 64) }
+    ensures { result ≡ bounds intervals book.entry.orders.now book.entry.blocks.now }
 {
-    orders.len() == order_fills.len()
-        && blocks.len() == block_fills.len()
-        && orders.len() <= MOST_ORDERS
-        && blocks.len() <= MOST_BLOCKS
+    let bounds = Bounds { intervals };
+    first_refused(&bounds, book.orders, 1)?;
+    first_refused(&bounds, book.blocks, next_entry(book))
 }
 
-pub(crate) fn lengths(
-    intervals: usize,
-    orders: &[Order],
-    order_fills: &[u32],
-    blocks: &[Block],
-    block_fills: &[u32],
-) -> Result<(), Refusal>
-    ensures { result ≡ lengths_of intervals orders.now order_fills.now blocks.now block_fills.now }
-{
-    if intervals <= MOST_INTERVALS && has_lawful_lengths(orders, order_fills, blocks, block_fills) {
-        Ok(())
-    } else {
-        Err(Refusal::Short)
+// A paper whose records are within the bounds of entry of the day.
+#[derive(Drop)]
+struct Entered<'a, 'b, 'c> {
+    prices: Prices<'a>,
+    paper: Paper<'b, 'c>,
+    ghost bounded: { bounds (length prices.day.now) paper.book.orders.now paper.book.blocks.now ≡ Ok tt },
+}
+
+impl<'a, 'b, 'c> Entered<'a, 'b, 'c> {
+    // 14 and 15 for the orders, 16 and 17 for the blocks.
+    fn check_prices(&self) -> Result<(), Refusal>
+        ensures { result ≡ prices self.now.prices.day.now self.now.paper.book.orders.now self.now.paper.fills.orders.now self.now.paper.book.blocks.now self.now.paper.fills.blocks.now }
+    {
+        let Paper { book, fills, .. } = &self.paper;
+        first_broken(&self.prices, book.orders, fills.orders, 1)?;
+        first_broken(&self.prices, book.blocks, fills.blocks, next_entry(*book))
+    }
+
+    // 18.
+    fn check_balances(&self) -> Result<(), Refusal>
+        ensures { result ≡ balances self.now.prices.day.now self.now.paper.book.orders.now self.now.paper.fills.orders.now self.now.paper.book.blocks.now self.now.paper.fills.blocks.now }
+    {
+        first_refused(&self.paper, self.prices.day, 1)
+    }
+
+    #[tactic(auto, using(crate::proofs::Judging::orders_mild))]
+    fn welfare(&self) -> i64
+        requires { quantities self.now.paper.book.orders.now self.now.paper.fills.orders.now self.now.paper.book.blocks.now self.now.paper.fills.blocks.now ≡ Ok tt }
+        ensures { result ≡ welfare self.now.paper.book.orders.now self.now.paper.fills.orders.now self.now.paper.book.blocks.now self.now.paper.fills.blocks.now }
+    {
+        let Paper { book, fills, .. } = &self.paper;
+        sum_of(&Worths, book.orders, fills.orders) + sum_of(&Worths, book.blocks, fills.blocks)
     }
 }
 
-// The entry of the first block.
-fn next_entry(orders: &[Order]) -> u32
-    requires { length orders.now ≤ 1024 }
-    ensures { result ≡ length orders.now + 1 }
+pub(crate) fn examine(day: &[Interval], book: Book<'_>, fills: Fills<'_>) -> Result<i64, Refusal>
+    ensures { result ≡ verdict_of day.now book.entry.orders.now fills.entry.orders.now book.entry.blocks.now fills.entry.blocks.now }
 {
-    orders.len() as u32 + 1
-}
-
-pub(crate) fn bounds(intervals: usize, orders: &[Order], blocks: &[Block]) -> Result<(), Refusal>
-    requires few { (length orders.now ≤ 1024) × (length blocks.now ≤ 64) }
-    ensures { result ≡ bounds_of intervals orders.now blocks.now }
-{
-    let bounds = Bounds { intervals };
-    first_refused(&bounds, orders, 1)?;
-    first_refused(&bounds, blocks, next_entry(orders))
-}
-
-pub(crate) fn quantities(
-    orders: &[Order],
-    order_fills: &[u32],
-    blocks: &[Block],
-    block_fills: &[u32],
-) -> Result<(), Refusal>
-    requires { Sized orders.now order_fills.now blocks.now block_fills.now }
-    ensures { result ≡ quantities_of orders.now order_fills.now blocks.now block_fills.now }
-{
-    first_broken(&Quantities, orders, order_fills, 1)?;
-    first_broken(&Quantities, blocks, block_fills, next_entry(orders))
-}
-
-fn prices(
-    day: &[Interval],
-    orders: &[Order],
-    order_fills: &[u32],
-    blocks: &[Block],
-    block_fills: &[u32],
-) -> Result<(), Refusal>
-    requires short { length day.now ≤ 100 }
-    requires sized { Sized orders.now order_fills.now blocks.now block_fills.now }
-    requires bounded { bounds_of (length day.now) orders.now blocks.now ≡ Ok tt }
-    ensures { result ≡ prices_of day.now orders.now order_fills.now blocks.now block_fills.now }
-{
+    let paper = Paper::new(day.len(), book, fills)?;
+    bounds(day.len(), book)?;
     let prices = Prices { day };
-    first_broken(&prices, orders, order_fills, 1)?;
-    first_broken(&prices, blocks, block_fills, next_entry(orders))
-}
-
-fn balances<'a>(
-    day: &[Interval],
-    orders: &'a [Order],
-    order_fills: &'a [u32],
-    blocks: &'a [Block],
-    block_fills: &'a [u32],
-) -> Result<(), Refusal>
-    requires short { length day.now ≤ 100 }
-    requires sized { Sized orders.now order_fills.now blocks.now block_fills.now }
-    ensures { result ≡ balances_of day.now orders.now order_fills.now blocks.now block_fills.now }
-{
-    let balance = Balance {
-        orders,
-        order_fills,
-        blocks,
-        block_fills,
-    };
-    first_refused(&balance, day, 1)
-}
-
-fn welfare(
-    day: &[Interval],
-    orders: &[Order],
-    order_fills: &[u32],
-    blocks: &[Block],
-    block_fills: &[u32],
-) -> i64
-    requires short { length day.now ≤ 100 }
-    requires sized { Sized orders.now order_fills.now blocks.now block_fills.now }
-    requires bounded { bounds_of (length day.now) orders.now blocks.now ≡ Ok tt }
-    requires filled { quantities_of orders.now order_fills.now blocks.now block_fills.now ≡ Ok tt }
-    ensures { result ≡ welfare_of orders.now order_fills.now blocks.now block_fills.now }
-{
-    sum_of(&Worths, orders, order_fills) + sum_of(&Worths, blocks, block_fills)
-}
-
-pub(crate) fn examine(
-    day: &[Interval],
-    orders: &[Order],
-    order_fills: &[u32],
-    blocks: &[Block],
-    block_fills: &[u32],
-) -> Result<i64, Refusal>
-    ensures { result ≡ verdict_of day.now orders.now order_fills.now blocks.now block_fills.now }
-{
-    lengths(day.len(), orders, order_fills, blocks, block_fills)?;
-    bounds(day.len(), orders, blocks)?;
-    quantities(orders, order_fills, blocks, block_fills)?;
-    prices(day, orders, order_fills, blocks, block_fills)?;
-    balances(day, orders, order_fills, blocks, block_fills)?;
-    Ok(welfare(day, orders, order_fills, blocks, block_fills))
+    let entered = Entered { prices, paper };
+    entered.paper.check_quantities()?;
+    entered.check_prices()?;
+    entered.check_balances()?;
+    Ok(entered.welfare())
 }

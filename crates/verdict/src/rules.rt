@@ -1,15 +1,15 @@
 // The rules on one record, and on one entry with its fill.
 ghost use Rattle.std.specs.Prelude.{◌≡◌, ℕ, ◌≤◌, true, length, pos, ◌*ℤ◌, ◌≤ℤ◌, Ok};
 ghost use Rattle.market.specs.Bounds.{in_day, quantity_ok, least_ok, span_ok, order_bounds, block_bounds, outside};
+ghost use Rattle.verdict.specs.Rules.{thousandths};
 ghost use Rattle.verdict.specs.Rules.{within, full, quantity_rule, price_at, misses, beats, order_price};
-ghost use Rattle.verdict.specs.Rules.{enough, price_sum, block_prices, span as span_of, pays, block_price};
+ghost use Rattle.verdict.specs.Rules.{enough, price_sum, block_prices, span, pays, block_price};
 
 use super::walk::{Check, Rule};
+use market::bounds::THOUSANDTHS_PER_STEP;
 use market::entry::Entry;
 use market::records::{Block, Interval, Order, Side};
 use market::refusal::Refusal;
-
-const THOUSANDTHS_PER_STEP: i64 = 100;
 
 const WHOLE_PERCENTAGE: i64 = 100;
 
@@ -19,63 +19,36 @@ pub(crate) struct Bounds {
     pub intervals: usize,
 }
 
-impl Check<Order> for Bounds {
-    ghost ready = { λ _. Unit {0} };
+impl<E: Entry> Check<E> for Bounds {
+    ghost answer = { λ d x k. outside k (E.kind.bounds d.intervals x) };
 
-    ghost answer = { λ d o k. outside k (order_bounds d.intervals o) };
-
-    fn check(&self, x: &Order, number: u32) -> Result<(), Refusal> {
-        match x.check_bounds(self.intervals) {
-            Ok(()) => Ok(()),
-            Err(_) => Err(Refusal::OutsideBounds { entry: number }),
-        }
+    fn check(&self, x: &E, number: u32) -> Result<(), Refusal> {
+        x.check_bounds(self.intervals)
+            .map_err(|_| Refusal::OutsideBounds { entry: number })
     }
 }
 
-impl Check<Block> for Bounds {
-    ghost ready = { λ _. Unit {0} };
-
-    ghost answer = { λ d b k. outside k (block_bounds d.intervals b) };
-
-    fn check(&self, x: &Block, number: u32) -> Result<(), Refusal> {
-        match x.check_bounds(self.intervals) {
-            Ok(()) => Ok(()),
-            Err(_) => Err(Refusal::OutsideBounds { entry: number }),
-        }
-    }
+// A quantity in thousandths of a MW.
+fn thousandths(steps: i32) -> i64
+    ensures { result ≡ thousandths steps }
+{
+    THOUSANDTHS_PER_STEP * i64::from(steps)
 }
 
 /// 13: no fill above its quantity.
 #[derive(Drop)]
 pub(crate) struct Quantities;
 
-fn check_quantity(quantity: i32, fill: u32, entry: u32) -> Result<(), Refusal>
-    ensures { result ≡ quantity_rule quantity fill «entry» }
-{
-    if fill as i64 <= THOUSANDTHS_PER_STEP * quantity as i64 {
+impl<E: Entry> Rule<E> for Quantities {
+    ghost may = { λ _ _ _. Unit {0} };
+
+    ghost answer = { λ _ x f k. quantity_rule (E.kind.quantity x) f k };
+
+    fn judge(&self, x: &E, fill: u32, entry: u32) -> Result<(), Refusal> {
+        if i64::from(fill) > thousandths(x.quantity()) {
+            return Err(Refusal::OverQuantity { entry });
+        }
         Ok(())
-    } else {
-        Err(Refusal::OverQuantity { entry })
-    }
-}
-
-impl Rule<Order> for Quantities {
-    ghost may = { λ _ _ _. Unit {0} };
-
-    ghost answer = { λ _ o f k. quantity_rule o.quantity f k };
-
-    fn judge(&self, x: &Order, fill: u32, entry: u32) -> Result<(), Refusal> {
-        check_quantity(x.quantity, fill, entry)
-    }
-}
-
-impl Rule<Block> for Quantities {
-    ghost may = { λ _ _ _. Unit {0} };
-
-    ghost answer = { λ _ b f k. quantity_rule b.quantity f k };
-
-    fn judge(&self, x: &Block, fill: u32, entry: u32) -> Result<(), Refusal> {
-        check_quantity(x.quantity, fill, entry)
     }
 }
 
@@ -83,13 +56,7 @@ impl Rule<Block> for Quantities {
 #[derive(Drop)]
 pub(crate) struct Prices<'a> {
     pub day: &'a [Interval],
-}
-
-fn price_at(day: &[Interval], interval: i32) -> i32
-    requires { in_day (length day.now) interval ≡ true }
-    ensures { result ≡ price_at day.now interval }
-{
-    day[interval as usize - 1].price
+    ghost short: { length day.now ≤ 100 },
 }
 
 fn is_missed(side: Side, limit: i32, price: i32) -> bool
@@ -122,21 +89,7 @@ fn is_paid(side: Side, limits: i64, prices: i64) -> bool
 fn is_full(quantity: i32, fill: u32) -> bool
     ensures { result ≡ full quantity fill }
 {
-    fill as i64 >= THOUSANDTHS_PER_STEP * quantity as i64
-}
-
-fn check_order(day: &[Interval], order: &Order, fill: u32, entry: u32) -> Result<(), Refusal>
-    requires { in_day (length day.now) order.now.interval ≡ true }
-    ensures { result ≡ order_price day.now order.now fill «entry» }
-{
-    let price = price_at(day, order.interval);
-    if fill != 0 && is_missed(order.side, order.limit, price) {
-        return Err(Refusal::ShouldBeEmpty { entry });
-    }
-    if is_beaten(order.side, order.limit, price) && !is_full(order.quantity, fill) {
-        return Err(Refusal::ShouldBeFull { entry });
-    }
-    Ok(())
+    i64::from(fill) >= thousandths(quantity)
 }
 
 impl<'a> Rule<Order> for Prices<'a> {
@@ -145,7 +98,14 @@ impl<'a> Rule<Order> for Prices<'a> {
     ghost answer = { λ p o f k. order_price p.day.now o f k };
 
     fn judge(&self, x: &Order, fill: u32, entry: u32) -> Result<(), Refusal> {
-        check_order(self.day, x, fill, entry)
+        let price = self.at(x.interval);
+        if fill != 0 && is_missed(x.side, x.limit, price) {
+            return Err(Refusal::ShouldBeEmpty { entry });
+        }
+        if is_beaten(x.side, x.limit, price) && !is_full(x.quantity, fill) {
+            return Err(Refusal::ShouldBeFull { entry });
+        }
+        Ok(())
     }
 }
 
@@ -154,8 +114,7 @@ fn is_enough(block: &Block, fill: u32) -> bool
     requires { (quantity_ok block.now.quantity ≡ true) × (least_ok block.now.least ≡ true) }
     ensures { result ≡ enough block.now fill }
 {
-    block.least as i64 * (THOUSANDTHS_PER_STEP * block.quantity as i64)
-        <= WHOLE_PERCENTAGE * fill as i64
+    i64::from(block.least) * thousandths(block.quantity) <= WHOLE_PERCENTAGE * i64::from(fill)
 }
 
 fn total_price(intervals: &[Interval]) -> i64
@@ -163,54 +122,58 @@ fn total_price(intervals: &[Interval]) -> i64
     ensures { result ≡ price_sum intervals.now }
 {
     let mut sum = 0;
-    for i in 0..intervals.len() {
-        sum += intervals[i].price as i64;
+    for interval in intervals {
+        sum += i64::from(interval.price);
     }
     sum
 }
 
-fn prices_of(day: &[Interval], block: &Block) -> i64
-    requires { (length day.now ≤ 100) × (span_ok (length day.now) block.now.first block.now.last ≡ true) }
-    ensures { result ≡ block_prices day.now block.now }
-{
-    total_price(&day[block.first as usize - 1..block.last as usize])
+impl<'a> Prices<'a> {
+    // The price of an interval.
+    fn at(&self, interval: i32) -> i32
+        requires { in_day (length self.now.day.now) interval ≡ true }
+        ensures { result ≡ price_at self.now.day.now interval }
+    {
+        self.day[interval as usize - 1].price
+    }
+
+    // The prices of a block's intervals, added up.
+    fn over(&self, block: &Block) -> i64
+        requires { span_ok (length self.now.day.now) block.now.first block.now.last ≡ true }
+        ensures { result ≡ block_prices self.now.day.now block.now }
+    {
+        total_price(&self.day[block.first as usize - 1..block.last as usize])
+    }
 }
 
 pub(crate) fn span(block: &Block) -> i64
-    ensures { result ≡ span_of block.now }
+    ensures { result ≡ span block.now }
 {
-    block.last as i64 - block.first as i64 + 1
+    i64::from(block.last) - i64::from(block.first) + 1
 }
 
 fn limits_of(block: &Block) -> i64
-    requires { (pos 1 ≤ℤ span_of block.now) × (span_of block.now ≤ℤ pos 100) }
-    ensures { result ≡ block.now.limit *ℤ span_of block.now }
+    requires { (pos 1 ≤ℤ span block.now) × (span block.now ≤ℤ pos 100) }
+    ensures { result ≡ block.now.limit *ℤ span block.now }
 {
-    block.limit as i64 * span(block)
-}
-
-fn check_block(day: &[Interval], block: &Block, fill: u32, entry: u32) -> Result<(), Refusal>
-    requires { (length day.now ≤ 100) × (block_bounds (length day.now) block.now ≡ Ok tt) }
-    ensures { result ≡ block_price day.now block.now fill «entry» }
-{
-    if fill == 0 {
-        return Ok(());
-    }
-    if !is_enough(block, fill) {
-        return Err(Refusal::BelowLeast { entry });
-    }
-    if !is_paid(block.side, limits_of(block), prices_of(day, block)) {
-        return Err(Refusal::BlockPrice { entry });
-    }
-    Ok(())
+    i64::from(block.limit) * span(block)
 }
 
 impl<'a> Rule<Block> for Prices<'a> {
-    ghost may = { λ p b _. (length p.day.now ≤ 100) × (block_bounds (length p.day.now) b ≡ Ok tt) };
+    ghost may = { λ p b _. block_bounds (length p.day.now) b ≡ Ok tt };
 
     ghost answer = { λ p b f k. block_price p.day.now b f k };
 
     fn judge(&self, x: &Block, fill: u32, entry: u32) -> Result<(), Refusal> {
-        check_block(self.day, x, fill, entry)
+        if fill == 0 {
+            return Ok(());
+        }
+        if !is_enough(x, fill) {
+            return Err(Refusal::BelowLeast { entry });
+        }
+        if !is_paid(x.side, limits_of(x), self.over(x)) {
+            return Err(Refusal::BlockPrice { entry });
+        }
+        Ok(())
     }
 }

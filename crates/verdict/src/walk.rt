@@ -1,20 +1,18 @@
 // The walks over records: the first refusal, and a sum. Each is written once, for every kind of record and every rule.
 ghost use Rattle.std.specs.Prelude.{◌≡◌, ℕ, ◌+◌, ◌*◌, ◌≤◌, length, ℤ, Result};
-ghost use Rattle.market.specs.declared.refusal.Refusal.{Refusal as Fault};
+ghost use Rattle.market.specs.declared.refusal.Refusal.{Refusal};
 ghost use Rattle.verdict.specs.Walks.{first_in, first_filled};
-ghost use Rattle.verdict.specs.Sums.{Bounded, sum_filled};
+ghost use Rattle.market.specs.Signed.{Within};
+ghost use Rattle.verdict.specs.Sums.{sum_filled};
 ghost use Rattle.verdict.specs.Each.{Each};
 
 use market::refusal::Refusal;
 
 /// A look at one record by its number: the entry of an order or a block, or the number of an interval.
 pub(crate) trait Check<T> {
-    ghost ready: { Self → Type 0 };
-
-    ghost answer: { Self → T → ℕ → Result Unit Fault };
+    ghost answer: { Self → T → ℕ → Result Unit Refusal };
 
     fn check(&self, x: &T, number: u32) -> Result<(), Refusal>
-        requires { ready self.now }
         ensures { result ≡ answer self.now x.now number };
 }
 
@@ -24,13 +22,12 @@ pub(crate) fn first_refused<T, C: Check<T>>(
     records: &[T],
     first: u32,
 ) -> Result<(), Refusal>
-    requires ready { C.Check.ready check.now }
     requires few { length records.now ≤ 1024 }
     requires from { first ≤ 1025 }
     ensures { result ≡ first_in (C.Check.answer check.now) records.now first }
 {
-    for i in 0..records.len() {
-        check.check(&records[i], first + i as u32)?;
+    for (i, x) in records.iter().enumerate() {
+        check.check(x, first + i as u32)?;
     }
     Ok(())
 }
@@ -39,7 +36,7 @@ pub(crate) fn first_refused<T, C: Check<T>>(
 pub(crate) trait Rule<T> {
     ghost may: { Self → T → ℕ → Type 0 };
 
-    ghost answer: { Self → T → ℕ → ℕ → Result Unit Fault };
+    ghost answer: { Self → T → ℕ → ℕ → Result Unit Refusal };
 
     fn judge(&self, x: &T, fill: u32, entry: u32) -> Result<(), Refusal>
         requires { may self.now x.now fill }
@@ -53,14 +50,13 @@ pub(crate) fn first_broken<T, R: Rule<T>>(
     fills: &[u32],
     first: u32,
 ) -> Result<(), Refusal>
-    requires same { length entries.now ≡ length fills.now }
     requires few { length entries.now ≤ 1024 }
     requires from { first ≤ 1025 }
     requires may { Each (R.Rule.may rule.now) entries.now fills.now }
     ensures { result ≡ first_filled (R.Rule.answer rule.now) entries.now fills.now first }
 {
-    for i in 0..entries.len() {
-        rule.judge(&entries[i], fills[i], first + i as u32)?;
+    for (i, (x, fill)) in entries.iter().zip(fills).enumerate() {
+        rule.judge(x, *fill, first + i as u32)?;
     }
     Ok(())
 }
@@ -74,20 +70,19 @@ pub(crate) trait Amount<T> {
     fn amount(&self, x: &T, fill: u32) -> i64
         requires { may self.now x.now fill }
         ensures is { result ≡ gives self.now x.now fill }
-        ensures small { Bounded 40000000000000 result };
+        ensures small { Within 40000000000000 result };
 }
 
 /// What the entries come to.
 pub(crate) fn sum_of<T, M: Amount<T>>(amounts: &M, entries: &[T], fills: &[u32]) -> i64
-    requires same { length entries.now ≡ length fills.now }
     requires few { length entries.now ≤ 1024 }
     requires may { Each (M.Amount.may amounts.now) entries.now fills.now }
     ensures is { result ≡ sum_filled (M.Amount.gives amounts.now) entries.now fills.now }
-    ensures small { Bounded (40000000000000 * 1024) result }
+    ensures small { Within (40000000000000 * 1024) result }
 {
     let mut sum = 0;
-    for i in 0..entries.len() {
-        sum += amounts.amount(&entries[i], fills[i]);
+    for (x, fill) in entries.iter().zip(fills) {
+        sum += amounts.amount(x, *fill);
     }
     sum
 }

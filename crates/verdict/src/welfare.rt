@@ -1,36 +1,29 @@
 // The welfare of a paper: what its fills are worth at their limits.
 ghost use Rattle.std.specs.Prelude.{◌≡◌, ℕ, ◌≤◌, pos, ◌*ℤ◌};
-ghost use Rattle.verdict.specs.Balance.{worth as worth_of, order_worth, block_worth};
-ghost use Rattle.verdict.specs.Sums.{Bounded};
+ghost use Rattle.verdict.specs.Balance.{worth, order_worth, block_worth};
+ghost use Rattle.market.specs.Signed.{Within};
 ghost use Rattle.verdict.specs.Worths.{Mild, Spans};
 
 use super::rules::span;
 use super::walk::Amount;
 use market::records::{Block, Order, Side};
 
-fn value(limit: i32, fill: u32) -> i64
-    requires { Mild limit fill }
-    ensures is { result ≡ limit *ℤ pos fill }
-    ensures small { Bounded 400000000000 result }
-{
-    limit as i64 * fill as i64
-}
-
 fn worth(side: Side, limit: i32, fill: u32) -> i64
     requires { Mild limit fill }
-    ensures is { result ≡ worth_of side limit fill }
-    ensures small { Bounded 400000000000 result }
+    ensures is { result ≡ worth side limit fill }
+    ensures small { Within 400000000000 result }
 {
+    let value = i64::from(limit) * i64::from(fill);
     match side {
-        Side::Sell => -value(limit, fill),
-        Side::Buy => value(limit, fill),
+        Side::Sell => -value,
+        Side::Buy => value,
     }
 }
 
 fn block_worth(block: &Block, fill: u32) -> i64
     requires { Mild block.now.limit fill × Spans block.now }
     ensures is { result ≡ block_worth block.now fill }
-    ensures small { Bounded 40000000000000 result }
+    ensures small { Within 40000000000000 result }
 {
     worth(block.side, block.limit, fill) * span(block)
 }
@@ -39,6 +32,7 @@ fn block_worth(block: &Block, fill: u32) -> i64
 #[derive(Drop)]
 pub(crate) struct Worths;
 
+// A block's worth counts once for each of its intervals, and an order has no such factor: the two are plainer apart.
 impl Amount<Order> for Worths {
     ghost may = { λ _ o f. Mild o.limit f };
 

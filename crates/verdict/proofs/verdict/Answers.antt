@@ -4,9 +4,6 @@ use Rattle.verdict.proofs.verdict.Goals as goal
 
 pub returns : goal.returns
 returns c =
-    let j = judged c.args.day.now c.args.orders.now c.args.order_fills.now c.args.blocks.now c.args.block_fills.now c.examine.result c.examine.ensures in
-    record {
-      exact = c.examine.ensures;
-      judged = j;
-      best = best_if c.args.day.now c.args.orders.now c.args.order_fills.now c.args.blocks.now c.args.block_fills.now c.examine.result j;
-    }
+    let e = c.examine.ensures in
+    let j = judged _ _ _ _ _ _ e in
+    record { exact = e; judged = j; best = best_if _ _ _ _ _ _ j }

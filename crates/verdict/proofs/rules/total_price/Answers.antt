@@ -1,12 +1,11 @@
-use Rattle.std.proofs.Common.{arith}
+use Rattle.std.proofs.Common.{ap, arith}
 use borrow.Author.Differences.{ints}
-use Rattle.verdict.proofs.Sums.{price_more, price_all}
+use Rattle.std.proofs.lemmas.List.{drop_more}
+use Rattle.market.specs.Blank.{fresh}
+use Rattle.verdict.specs.Rules.{price_sum}
 use Rattle.verdict.proofs.rules.total_price.Goals as goal
 
-pub loop-i-preserved : goal.loop-i-preserved
-loop-i-preserved c =
-    let w = price_more c.args.intervals.now c.loop-i.i (omega arith) in
-    (omega (arith, ints), omega (arith, ints), omega (arith, ints))
-
-pub returns : goal.returns
-returns c = omega (arith, ints, price_all c.args.intervals.now c.loop-i.i (omega arith))
+pub loop-interval-preserved : goal.loop-interval-preserved
+loop-interval-preserved c =
+    let w = ap price_sum (drop_more c.args.intervals.now c.loop-interval.interval-index fresh (omega arith)) in
+    (omega (arith, ints), record { low = omega (arith, ints); high = omega (arith, ints) })

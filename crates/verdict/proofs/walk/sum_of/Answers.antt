@@ -1,23 +1,20 @@
-use Rattle.std.proofs.Common.{get_or, sym, ap, subst, arith}
+use Rattle.std.proofs.Common.{length, ap, ap₂, rules, arith}
 use borrow.Author.Differences.{ints}
-use Rattle.verdict.proofs.Eachs.{each_at}
-use Rattle.verdict.proofs.Sums.{sum_more, sum_all}
+use Rattle.std.proofs.lemmas.List.{length_push}
+use Rattle.std.proofs.lemmas.Slice.Zip.{Zip-more, either_empty_from_Zip}
+use Rattle.verdict.specs.Sums.{sum_filled}
+use Rattle.verdict.proofs.Spent.{sum_spent}
 use Rattle.verdict.proofs.walk.sum_of.Goals as goal
 
-pub amount-sum-requires : goal.amount-sum-requires
-amount-sum-requires g c =
-    let may = g.M.Amount.may c.args.amounts.now in
-    subst (λ x. may x (get_or c.args.fills.now c.loop-i.i 0)) (sym c.index-entries-i.is)
-    (each_at may c.args.entries.now c.args.fills.now c.loop-i.i c.index-entries-i.result c.requires.may (omega arith))
+pub loop-x-preserved : goal.loop-x-preserved
+loop-x-preserved g c =
+    let n = length_push c.loop-x.yielded (c.in-Some.x, c.in-Some.fill) in
+    let m = Zip-more c.loop-x.x-iterator c.next.new.self _ (c.in-Some.x, c.in-Some.fill) c.in-Some.is c.next.ensures.steps in
+    let e = ap length m.0 in
+    let s = ap₂ (sum_filled (g.M.Amount.gives c.args.amounts.now)) m.0 m.1 in
+    (search rules, search rules, omega (arith, n, e), search rules, omega (arith, ints, s), record { low = omega (arith, ints, n); high = omega (arith, ints, n) })
 
-pub loop-i-preserved : goal.loop-i-preserved
-loop-i-preserved g c =
-    let gives = g.M.Amount.gives c.args.amounts.now in
-    let here = ap (λ x. gives x (get_or c.args.fills.now c.loop-i.i 0)) c.index-entries-i.is in
-    let w = sum_more gives c.args.entries.now c.args.fills.now c.loop-i.i c.index-entries-i.result c.requires.same (omega arith) in
-    (omega (arith, ints), record { low = omega (arith, ints); high = omega (arith, ints) })
-
-pub returns : goal.returns
-returns g c =
-    let gives = g.M.Amount.gives c.args.amounts.now in
-    record { is = omega (arith, ints, sum_all gives c.args.entries.now c.args.fills.now c.loop-i.i (omega arith)); small = record { low = omega (arith, ints); high = omega (arith, ints) } }
+pub returns-clause-is : goal.returns-clause-is
+returns-clause-is g c =
+    let z = sum_spent (g.M.Amount.gives c.args.amounts.now) _ _ (either_empty_from_Zip c.loop-x.x-iterator c.next.new.self _ c.in-None.is c.next.ensures.steps) in
+    omega (arith, ints, z)

@@ -1,9 +1,19 @@
-use Rattle.std.proofs.Common.{◌≡◌, ◌*◌, drop, ◌+ℤ◌}
-use Rattle.verdict.specs.Sums.{sum_filled, Bounded}
+use Rattle.std.proofs.Common.{◌≡◌, ◌+◌, ◌*◌, length, ◌+ℤ◌}
+use Rattle.std.specs.Iterator.Adapters.{zip_first, zip_second}
+use Rattle.std.specs.Slice.Iter.{iter_rest}
+use Rattle.market.specs.Signed.{Within}
+use Rattle.verdict.specs.Each.{Each}
+use Rattle.verdict.specs.Sums.{sum_filled}
 use Rattle.verdict.proofs.walk.sum_of.Given as goal
 
-abbrev pub invariant-loop-i : goal.invariant-loop-i
-invariant-loop-i g l =
-    ((l.sum +ℤ sum_filled (g.M.Amount.gives l.amounts) (drop l.i l.entries) (drop l.i l.fills))
-    ≡ sum_filled (g.M.Amount.gives l.amounts) l.entries l.fills)
-    × Bounded (40000000000000 * l.i) l.sum
+-- the entries and fills that are left: what they come to completes the sum
+abbrev pub invariant-loop-x : goal.invariant-loop-x
+invariant-loop-x g l =
+    let xs = iter_rest (zip_first l.x-iterator) in
+    let fs = iter_rest (zip_second l.x-iterator) in
+    (goal.iterator-loop-x g).can_next l.x-iterator
+    × (goal.iterator-loop-x g).is_finite l.x-iterator
+    × (length l.yielded + length xs ≡ length l.entries)
+    × Each (g.M.Amount.may l.amounts) xs fs
+    × ((l.sum +ℤ sum_filled (g.M.Amount.gives l.amounts) xs fs) ≡ sum_filled (g.M.Amount.gives l.amounts) l.entries l.fills)
+    × Within (40000000000000 * length l.yielded) l.sum

@@ -1,0 +1,65 @@
+// A paper on a book, once its lengths are looked at.
+ghost use Rattle.std.specs.Prelude.{◌≡◌, ◌+◌, ◌≤◌, length, Ok, Err, IfOk, MatchResult};
+ghost use Rattle.verdict.specs.Verdict.{Sized, book_lengths_ok, paper_lengths, quantities};
+
+use super::rules::Quantities;
+use super::walk::first_broken;
+use market::bounds::{MOST_BLOCKS, MOST_INTERVALS, MOST_ORDERS};
+use market::records::{Book, Fills};
+use market::refusal::Refusal;
+
+/// A book with one fill to each entry, and no more entries than a book can have.
+#[derive(Drop)]
+pub(crate) struct Paper<'a, 'b> {
+    pub book: Book<'a>,
+    pub fills: Fills<'b>,
+    ghost sized: { Sized book.orders.now fills.orders.now book.blocks.now fills.blocks.now },
+}
+
+/// Whether a day can have so many intervals, and a book so many entries.
+pub(crate) fn has_lawful_lengths(intervals: usize, book: Book<'_>) -> bool
+    ensures { result ≡ book_lengths_ok intervals book.entry.orders.now book.entry.blocks.now }
+{
+    intervals <= MOST_INTERVALS
+        && book.orders.len() <= MOST_ORDERS
+        && book.blocks.len() <= MOST_BLOCKS
+}
+
+/// The entry of the first block.
+pub(crate) fn next_entry(book: Book<'_>) -> u32
+    requires { length book.orders.now ≤ 1024 }
+    ensures { result ≡ length book.entry.orders.now + 1 }
+{
+    book.orders.len() as u32 + 1
+}
+
+impl<'a, 'b> Paper<'a, 'b> {
+    /// 11: the lengths, in a day of so many intervals.
+    pub(crate) fn new(
+        intervals: usize,
+        book: Book<'a>,
+        fills: Fills<'b>,
+    ) -> Result<Paper<'a, 'b>, Refusal>
+        ensures is { IfOk result (λ p. (p.book ≡ book.entry) × (p.fills ≡ fills.entry)) }
+        ensures judged { let lengths = paper_lengths intervals book.entry.orders.now fills.entry.orders.now book.entry.blocks.now fills.entry.blocks.now
+            in MatchResult result (λ _. lengths ≡ Ok tt) (λ e. lengths ≡ Err e) }
+    {
+        if !has_lawful_lengths(intervals, book)
+            || book.orders.len() != fills.orders.len()
+            || book.blocks.len() != fills.blocks.len()
+        {
+            return Err(Refusal::Short);
+        }
+        Ok(Paper { book, fills })
+    }
+
+    /// 13: the quantities.
+    #[tactic(auto, using(crate::proofs::Eachs::each_none))]
+    pub(crate) fn check_quantities(&self) -> Result<(), Refusal>
+        ensures { result ≡ quantities self.now.book.orders.now self.now.fills.orders.now self.now.book.blocks.now self.now.fills.blocks.now }
+    {
+        let Paper { book, fills, .. } = self;
+        first_broken(&Quantities, book.orders, fills.orders, 1)?;
+        first_broken(&Quantities, book.blocks, fills.blocks, next_entry(*book))
+    }
+}
