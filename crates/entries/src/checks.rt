@@ -2,17 +2,12 @@
 ghost use Rattle.std.specs.Prelude.{◌≡◌, ◌+◌, length};
 ghost use Rattle.entries.specs.Settles.{interval_ok, few, work_ok, room_ok, settle_checks};
 
+use market::bounds::{MOST_BLOCKS, MOST_INTERVALS, MOST_ORDERS};
 use market::records::{Book, Fills};
 use market::refusal::Refusal;
 use verdict::check_paper;
 
 const FIRST_INTERVAL: u32 = 1;
-
-const MOST_INTERVALS: usize = 100;
-
-const MOST_ORDERS: usize = 1024;
-
-const MOST_BLOCKS: usize = 64;
 
 /// The lengths of the lent slices that settling writes.
 #[derive(Clone, Copy)]
