@@ -59,6 +59,13 @@ work_lengths w = record { numbers = length w.numbers.now; orders = length w.orde
 abbrev pub lengths : List ℕ → Work → Lengths
 lengths s w = record { sheet = length s; work = work_lengths w }
 
+-- the same slices, whatever they hold
+pub record SameSlices (w w' : Work) : Type 0 where
+  pub numbers : w'.numbers.ghost_name ≡ w.numbers.ghost_name
+  pub orders : w'.orders.ghost_name ≡ w.orders.ghost_name
+  pub blocks : w'.blocks.ghost_name ≡ w.blocks.ghost_name
+  pub lengths : work_lengths w' ≡ work_lengths w
+
 -- ---- the checks
 
 -- the intervals of a day of n are numbered from 1

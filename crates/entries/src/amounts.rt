@@ -40,10 +40,7 @@ impl Terms {
 pub(crate) fn posting_of(terms: Terms, party: Party, steps: u32) -> Option<Posting>
     ensures { result ≡ posting_of (conditions terms) party steps }
 {
-    if steps == NO_STEPS {
-        return None;
-    }
-    Some(Posting {
+    (steps != NO_STEPS).then(|| Posting {
         account: party.account,
         amount: terms.amount(party.side.signed(steps)),
     })

@@ -27,10 +27,9 @@ pub(crate) fn is_of(book: Book<'_>, place: usize, interval: u32) -> bool
     requires { place < length book.orders.now + length book.blocks.now }
     ensures { result ≡ of_interval book.entry.orders.now book.entry.blocks.now interval place }
 {
-    if place < book.orders.len() {
-        book.orders[place].covers(interval)
-    } else {
-        book.blocks[place - book.orders.len()].covers(interval)
+    match book.orders.get(place) {
+        Some(order) => order.covers(interval),
+        None => book.blocks[place - book.orders.len()].covers(interval),
     }
 }
 
@@ -39,9 +38,8 @@ pub(crate) fn party_at(book: Book<'_>, place: usize) -> Party
     requires { place < length book.orders.now + length book.blocks.now }
     ensures { result ≡ party_at book.entry.orders.now book.entry.blocks.now place }
 {
-    if place < book.orders.len() {
-        party_of(&book.orders[place])
-    } else {
-        party_of(&book.blocks[place - book.orders.len()])
+    match book.orders.get(place) {
+        Some(order) => party_of(order),
+        None => party_of(&book.blocks[place - book.orders.len()]),
     }
 }

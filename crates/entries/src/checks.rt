@@ -8,12 +8,12 @@ use market::bounds::{MOST_BLOCKS, MOST_INTERVALS, MOST_ORDERS};
 use market::refusal::Refusal;
 use verdict::check_paper;
 
-const FIRST_INTERVAL: u32 = 1;
+const FIRST_INTERVAL: usize = 1;
 
 fn has_interval(intervals: usize, interval: u32) -> bool
     ensures { result ≡ interval_ok intervals interval }
 {
-    FIRST_INTERVAL <= interval && interval as usize <= intervals
+    (FIRST_INTERVAL..=intervals).contains(&(interval as usize))
 }
 
 fn are_few(orders: usize, blocks: usize, intervals: usize) -> bool

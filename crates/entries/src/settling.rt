@@ -5,11 +5,10 @@ ghost use Rattle.posting.specs.Postings.{answers, left};
 ghost use Rattle.entries.specs.Amounts.{conditions, settle_postings};
 ghost use Rattle.entries.specs.Sheet.{sheet_with, Laid};
 ghost use Rattle.entries.specs.Settles.{settlement, settlement_of, work_lengths, lengths, Ready, SizedFor, settle_list, settle_numbers, settle_steps};
-ghost use Rattle.entries.specs.Settles.{carried_answer, carried_sheet, settle_answer, settle_accounts, settle_leaves, Moved};
+ghost use Rattle.entries.specs.Settles.{carried_answer, carried_sheet, settle_answer, settle_accounts, settle_leaves, Moved, SameSlices};
 
 use super::postings::Settling;
 use super::refused::SettleRefused;
-use super::sheet::Layout;
 use super::task::Task;
 use super::terms::Terms;
 use super::work::Work;
@@ -23,6 +22,7 @@ impl Task<'_> {
     fn settle_numbers(self, work: &mut Work<'_>) -> i32
         requires { SizedFor (settlement_of self) (work_lengths work.old) }
         ensures steps { result ≡ settle_steps (settlement_of self.entry) }
+        ensures slices { SameSlices work.old work.new }
         ensures numbers { take (length self.entry.book.orders.now + length self.entry.book.blocks.now) work.new.numbers.now ≡ settle_numbers (settlement_of self.entry) }
     {
         let steps = settled_numbers(
@@ -56,18 +56,14 @@ impl Task<'_> {
         ensures writes { sheet.new ≡ if_taken (answers (L.Accounts.model ledger.old) (settle_postings self.entry.book.orders.now self.entry.book.blocks.now numbers.now (conditions self.entry.terms))) (sheet_with self.entry.book.orders.now self.entry.book.blocks.now self.entry.intervals self.entry.interval numbers.now sheet.old) sheet.old }
         ensures keeps { L.Ledger.kept ledger.old ledger.new }
     {
-        let layout = Layout {
-            book: self.book,
-            intervals: self.intervals,
-            interval: self.interval,
-        };
-        let postings = Settling {
-            book: self.book,
-            numbers,
-            terms: self.terms,
-        };
-        post_all(ledger, &postings)?;
-        layout.write(numbers, sheet);
+        post_all(
+            ledger,
+            &Settling {
+                task: self,
+                numbers,
+            },
+        )?;
+        self.write(numbers, sheet);
         Ok(())
     }
 
@@ -82,6 +78,7 @@ impl Task<'_> {
         requires { Ready (settlement_of self) (lengths sheet.old work.old) }
         ensures answers { result ≡ carried_answer (settlement_of self.entry) (L.Accounts.model ledger.old) }
         ensures posts { L.Accounts.model ledger.new ≡ left (L.Accounts.model ledger.old) (settle_list (settlement_of self.entry)) }
+        ensures slices { SameSlices work.old work.new }
         ensures writes { sheet.new ≡ carried_sheet (settlement_of self.entry) (L.Accounts.model ledger.old) sheet.old }
         ensures keeps { L.Ledger.kept ledger.old ledger.new }
     {
@@ -113,6 +110,7 @@ pub fn settle_interval<L: Ledger>(
     ensures posts { L.Accounts.model ledger.new ≡ settle_accounts (settlement book.entry fills.entry intervals interval terms) (lengths sheet.old work.old) (L.Accounts.model ledger.old) }
     ensures writes { sheet.new ≡ settle_leaves (settlement book.entry fills.entry intervals interval terms) (lengths sheet.old work.old) (L.Accounts.model ledger.old) sheet.old }
     ensures keeps { L.Ledger.kept ledger.old ledger.new }
+    ensures slices { SameSlices work.old work.new }
     ensures moves { Moved result (conditions terms) (L.Accounts.model ledger.old) (L.Accounts.model ledger.new) sheet.old sheet.new }
 {
     let task = Task {

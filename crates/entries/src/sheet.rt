@@ -3,15 +3,7 @@ ghost use Rattle.std.specs.Prelude.{◌≡◌, ◌+◌, ◌-◌, ◌<◌, ◌≤
 ghost use Rattle.entries.specs.Sheet.{of_interval, place_of, sheet_with, Laid, Fits};
 
 use super::book::is_of;
-use market::records::Book;
-
-/// Where the sheet of a book has its numbers of an interval, in a day of so many.
-#[derive(Clone, Copy)]
-pub(crate) struct Layout<'a> {
-    pub book: Book<'a>,
-    pub intervals: usize,
-    pub interval: u32,
-}
+use super::task::Task;
 
 fn put_in_row(row: &mut [u32], interval: u32, number: u32)
     requires { (1 ≤ interval) × (interval ≤ length row.old) }
@@ -20,7 +12,7 @@ fn put_in_row(row: &mut [u32], interval: u32, number: u32)
     row[interval as usize - 1] = number;
 }
 
-impl Layout<'_> {
+impl Task<'_> {
     // Writes the number of the entry at a place.
     fn put(self, sheet: &mut [u32], place: usize, number: u32)
         requires { Fits (length self.book.orders.now) self.intervals self.interval place (length sheet.old) }

@@ -1,6 +1,6 @@
 use Rattle.std.proofs.Common.{◌≡◌, length, get_or}
 use Rattle.entries.specs.Sheet.{written, of_interval, place_of}
-use Rattle.entries.proofs.sheet.Layout.write.Given as goal
+use Rattle.entries.proofs.task.Task.write.Given as goal
 
 abbrev pub invariant-loop-place : goal.invariant-loop-place
 invariant-loop-place l =

@@ -2,7 +2,7 @@ use Rattle.std.proofs.Common.{◌≡◌, ◌+◌, ◌-◌, ◌<◌, ◌≤◌, f
 use Rattle.std.proofs.lemmas.Bool.{le-ltb}
 use Rattle.entries.specs.Sheet.{row_of}
 use Rattle.entries.proofs.Rows.{row-set}
-use Rattle.entries.proofs.sheet.Layout.put.Goals as goal
+use Rattle.entries.proofs.task.Task.put.Goals as goal
 
 pub returns-else-place-orders : goal.returns-else-place-orders
 returns-else-place-orders c =
