@@ -1,25 +1,10 @@
 -- The checks of settling, and what they come to.
-use Rattle.std.proofs.Common.{◌≡◌, ℕ, ◌+◌, Bool, true, false, cond, ◌&&◌, List, ◌++◌, length, take, ℤ, Some, None, Option, Err, ap, ◌∙◌, arith}
+use Rattle.std.proofs.Common.{◌≡◌, ℕ, ◌+◌, Bool, true, false, cond, ◌&&◌, List, ◌++◌, length, take, ℤ, Some, None, Option, ap, ◌∙◌, arith}
 use Rattle.std.proofs.lemmas.List.{take_at}
-use Rattle.market.specs.declared.refusal.Refusal.TheVariants.{NoInterval, Short}
-use Rattle.verdict.specs.Verdict.{paper_checks}
 use Rattle.cuts.proofs.Cutting.{length_settled}
 use Rattle.cuts.specs.Settled.{sizes_fit, lists_fit}
-use Rattle.entries.specs.Settles.{Settlement, Lengths, WorkLengths, interval_ok, room_ok, settle_numbers, settle_checks, SizedFor}
+use Rattle.entries.specs.Settles.{Settlement, WorkLengths, settle_numbers, SizedFor}
 use Rattle.std.proofs.lemmas.Bool.Decides.{nat_tests}
-
-module _ (x : Settlement) (l : Lengths) where
-  pub no_interval : interval_ok x.intervals x.interval ≡ false → Err NoInterval ≡ settle_checks x l
-  unfolding settle_checks
-  no_interval e = rw e
-
-  pub too_short : interval_ok x.intervals x.interval ≡ true → room_ok (length x.orders) (length x.blocks) x.intervals l ≡ false → Err Short ≡ settle_checks x l
-  unfolding settle_checks
-  too_short e f = rw (e, f)
-
-  pub paper_next : interval_ok x.intervals x.interval ≡ true → room_ok (length x.orders) (length x.blocks) x.intervals l ≡ true → paper_checks x.intervals x.orders x.order_fills x.blocks x.block_fills ≡ settle_checks x l
-  unfolding settle_checks
-  paper_next e f = rw (e, f)
 
 -- the cuts find all their slices long enough
 pub sizes : (x : Settlement) (w : WorkLengths) → SizedFor x w → (sizes_fit (length x.orders) (length x.order_fills) (length x.blocks) (length x.block_fills) w.numbers && lists_fit (length x.orders) w.orders (length x.blocks) w.blocks) ≡ true

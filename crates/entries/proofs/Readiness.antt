@@ -1,9 +1,10 @@
 -- What the checks of settling come to, where they pass.
-use Rattle.std.proofs.Common.{◌≡◌, ℕ, ◌+◌, ◌*◌, ◌<◌, ◌≤◌, true, ◌&&◌, leb, List, [], ◌∷◌, length, get_or, ℤ, pos, neg_ℤ, unsigned_abs, Ok, sym, ⊎_elim, arith, w32, SFits}
+use Rattle.std.proofs.Common.{◌≡◌, ℕ, ◌+◌, ◌<◌, ◌≤◌, true, List, [], ◌∷◌, length, get_or, ℤ, pos, neg_ℤ, unsigned_abs, Ok, sym, ⊎_elim, arith, w32, SFits}
 use borrow.Author.Differences.{ints, abs_is}
 use Rattle.std.proofs.lemmas.Int.{fits_signed_from_abs}
 use Rattle.std.proofs.lemmas.List.{get_or_past}
-use Rattle.std.proofs.lemmas.Bool.{and_parts, leb-true, cases_lt}
+use Rattle.std.proofs.lemmas.Bool.{cases_lt}
+use Rattle.std.proofs.lemmas.Bool.Decides.{nat_tests}
 use Rattle.market.specs.declared.refusal.Refusal.TheVariants.{NoInterval, Short}
 use Rattle.market.specs.Blank.{no_order, no_block}
 use Rattle.market.specs.First.{tests}
@@ -16,35 +17,27 @@ use Rattle.cuts.specs.Rounding.{nearest}
 use Rattle.cuts.specs.Settled.{remainder_of}
 use Rattle.cuts.proofs.Remainders.{settles}
 use Rattle.entries.specs.Lawful.{rounded_ok}
-use Rattle.entries.specs.Settles.{interval_ok, few, work_ok, room_ok, settle_checks, Settlement, Lengths, WorkLengths, SizedFor, Ready, settle_steps}
+use Rattle.entries.specs.Sheet.{Laid}
+use Rattle.entries.specs.Settles.{interval_ok, room_ok, settle_checks, Settlement, Lengths, WorkLengths, SizedFor, Ready, settle_steps}
 
 -- what holds of the fill of each entry holds of any place of the fills
 small_at : {X : Type 0} (d : X) (xs : List X) (fs : List ℕ) → length xs ≡ length fs → ((k : ℕ) → k < length xs → get_or fs k 0 ≤ 1000000) → (k : ℕ) → get_or fs k 0 ≤ 1000000
 small_at d xs fs e h k =
     ⊎_elim (λ lt. h k lt) (λ past. let z = get_or_past fs k 0 (omega arith) in omega arith) (cases_lt k (length xs))
 
+-- what the tests of the interval and of the room say
+laid_from : (o b n i : ℕ) (l : Lengths) → interval_ok n i ≡ true → room_ok o b n l ≡ true → Laid o b n i l.sheet
+laid_from o b n i l e f = record { from = grind (arith, nat_tests); to = grind (arith, nat_tests); room = grind (arith, nat_tests) }
+
+record Roomy (entries : ℕ) (w : WorkLengths) : Type 0 where
+  numbers : entries ≤ w.numbers
+  orders : entries ≤ w.orders
+  blocks : entries ≤ w.blocks
+
+roomy_from : (o b n : ℕ) (l : Lengths) → room_ok o b n l ≡ true → Roomy (o + b) l.work
+roomy_from o b n l e = record { numbers = grind (arith, nat_tests); orders = grind (arith, nat_tests); blocks = grind (arith, nat_tests) }
+
 module _ (x : Settlement) (l : Lengths) where
-  record Facts : Type 0 where
-    from : 1 ≤ x.interval
-    to : x.interval ≤ x.intervals
-    room : length x.orders + length x.blocks * x.intervals ≤ l.sheet
-    work : length x.orders + length x.blocks ≤ l.work.numbers
-    order_room : length x.orders + length x.blocks ≤ l.work.orders
-    block_room : length x.orders + length x.blocks ≤ l.work.blocks
-
-  facts : interval_ok x.intervals x.interval ≡ true → room_ok (length x.orders) (length x.blocks) x.intervals l ≡ true → Facts
-  facts e f =
-      let n = x.intervals in
-      let o = length x.orders in
-      let b = length x.blocks in
-      let w = l.work in
-      let p = and_parts (leb 1 x.interval) (leb x.interval n) e in
-      let q = and_parts (few o b n) (leb (o + b * n) l.sheet && work_ok (o + b) w) f in
-      let r = and_parts (leb (o + b * n) l.sheet) (work_ok (o + b) w) q.1 in
-      let s = and_parts (leb (o + b) w.numbers) (leb (o + b) w.orders && leb (o + b) w.blocks) r.1 in
-      let u = and_parts (leb (o + b) w.orders) (leb (o + b) w.blocks) s.1 in
-      record { from = leb-true _ _ p.0; to = leb-true _ _ p.1; room = leb-true _ _ r.0; work = leb-true _ _ s.0; order_room = leb-true _ _ u.0; block_room = leb-true _ _ u.1 }
-
   pub ready_from : settle_checks x l ≡ Ok tt → Ready x l
   unfolding settle_checks
   ready_from e =
@@ -56,7 +49,7 @@ module _ (x : Settlement) (l : Lengths) where
       let table = (interval_ok n x.interval, NoInterval) ∷ (room_ok (length os) (length bs) n l, Short) ∷ [] in
       let a = then_ok (tests table) (paper_checks n os fs bs gs) tt e in
       let b = tests_out table a.0 in
-      let f = facts b.0 b.1.0 in
+      let room = roomy_from (length os) (length bs) n l b.1.0 in
       let p = then_ok (paper_lengths n os fs bs gs) _ tt a.1 in
       let q = then_ok (bounds n os bs) (quantities os fs bs gs) tt p.1 in
       let z = sized_from n os fs bs gs p.0 in
@@ -68,13 +61,13 @@ module _ (x : Settlement) (l : Lengths) where
           blocks = z.1.fewer;
           order_fills = sym z.1.orders;
           block_fills = sym z.1.blocks;
-          work = f.work;
-          order_room = f.order_room;
-          block_room = f.block_room;
+          work = room.numbers;
+          order_room = room.orders;
+          block_room = room.blocks;
           order_small = small_at no_order os fs z.1.orders (λ k lt. (each_at _ os fs k no_order orders-each lt).1);
           block_small = small_at no_block bs gs z.1.blocks (λ k lt. (each_at _ bs gs k no_block blocks-each lt).0.1);
         };
-        laid = record { from = f.from; to = f.to; room = f.room };
+        laid = laid_from (length os) (length bs) n x.interval l b.0 b.1.0;
       }
 
 -- ---- the remainder is small

@@ -153,12 +153,12 @@ abbrev pub settle_answer : Settlement → Lengths → List Account → Result �
 settle_answer x l m = checked (settle_checks x l) (carried_answer x m)
 
 -- the accounts that settling leaves: with all postings, or as they were
-abbrev pub settle_accounts : Settlement → Lengths → List Account → List Account
-settle_accounts x l m = if_checked (settle_checks x l) (left m (settle_list x)) m
+abbrev pub settled_accounts : Settlement → Lengths → List Account → List Account
+settled_accounts x l m = if_checked (settle_checks x l) (left m (settle_list x)) m
 
 -- the sheet that settling leaves: with the settled numbers, or as it was
-abbrev pub settle_leaves : Settlement → Lengths → List Account → List ℕ → List ℕ
-settle_leaves x l m s = if_checked (settle_checks x l) (carried_sheet x m s) s
+abbrev pub settled_sheet : Settlement → Lengths → List Account → List ℕ → List ℕ
+settled_sheet x l m s = if_checked (settle_checks x l) (carried_sheet x m s) s
 
 -- Settled, the sum of all balances has moved by the worth of the remainder; refused, accounts and sheet are as they were.
 abbrev pub Moved : Result ℤ SettleRefused → Conditions → List Account → List Account → List ℕ → List ℕ → Type 0

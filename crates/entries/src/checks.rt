@@ -41,6 +41,7 @@ impl Work<'_> {
 impl Task<'_> {
     /// 3 for an interval that the day does not have; 11 for a slice that is too short, more records or intervals than there can be,
     /// or another number of fills than of entries; 12 for a record outside the bounds of entry; 13 for a fill above its quantity.
+    #[tactic(auto, unfolding(crate::specs::Settles::settle_checks))]
     pub(crate) fn check(self, sheet: &[u32], work: &Work<'_>) -> Result<(), Refusal>
         ensures { result ≡ settle_checks (settlement_of self.entry) (lengths sheet.now work.now) }
     {

@@ -1,11 +1,10 @@
 // Settling an interval over slices and any ledger.
 ghost use Rattle.std.specs.Prelude.{◌≡◌, ◌+◌, ◌≤◌, length, take};
-ghost use Rattle.ledger.specs.Model.{if_taken};
 ghost use Rattle.posting.specs.Postings.{answers, left};
-ghost use Rattle.entries.specs.Amounts.{conditions, settle_postings};
-ghost use Rattle.entries.specs.Sheet.{sheet_with, Laid};
+ghost use Rattle.entries.specs.Amounts.{conditions};
+ghost use Rattle.entries.specs.Sheet.{Laid};
 ghost use Rattle.entries.specs.Settles.{settlement, settlement_of, work_lengths, lengths, Ready, SizedFor, settle_list, settle_numbers, settle_steps};
-ghost use Rattle.entries.specs.Settles.{carried_answer, carried_sheet, settle_answer, settle_accounts, settle_leaves, Moved, SameSlices};
+ghost use Rattle.entries.specs.Settles.{carried_answer, carried_sheet, settle_answer, settled_accounts, settled_sheet, Moved, SameSlices};
 
 use super::postings::Settling;
 use super::refused::SettleRefused;
@@ -40,8 +39,8 @@ impl Task<'_> {
         steps as i32
     }
 
-    // Posts the numbers of the entries, all or none, and only then writes them.
-    #[tactic(auto, unfolding(crate::specs::Amounts::settle_postings))]
+    // Posts the settled numbers of the entries, all or none, and only then writes them.
+    #[tactic(auto, unfolding(crate::specs::Amounts::settle_postings, crate::specs::Settles::settle_list, crate::specs::Settles::settle_sheet))]
     fn carry_out<L: Ledger>(
         self,
         numbers: &[u32],
@@ -50,25 +49,24 @@ impl Task<'_> {
     ) -> Result<(), PostRefused>
         requires few { length self.book.orders.now + length self.book.blocks.now ≤ 1088 }
         requires laid { Laid (length self.book.orders.now) (length self.book.blocks.now) self.intervals self.interval (length sheet.old) }
-        requires numbers { length numbers.now ≡ length self.book.orders.now + length self.book.blocks.now }
-        ensures answers { result ≡ answers (L.Accounts.model ledger.old) (settle_postings self.entry.book.orders.now self.entry.book.blocks.now numbers.now (conditions self.entry.terms)) }
-        ensures posts { L.Accounts.model ledger.new ≡ left (L.Accounts.model ledger.old) (settle_postings self.entry.book.orders.now self.entry.book.blocks.now numbers.now (conditions self.entry.terms)) }
-        ensures writes { sheet.new ≡ if_taken (answers (L.Accounts.model ledger.old) (settle_postings self.entry.book.orders.now self.entry.book.blocks.now numbers.now (conditions self.entry.terms))) (sheet_with self.entry.book.orders.now self.entry.book.blocks.now self.entry.intervals self.entry.interval numbers.now sheet.old) sheet.old }
+        requires each { length numbers.now ≡ length self.book.orders.now + length self.book.blocks.now }
+        requires settled { numbers.now ≡ settle_numbers (settlement_of self) }
+        ensures answers { result ≡ answers (L.Accounts.model ledger.old) (settle_list (settlement_of self.entry)) }
+        ensures posts { L.Accounts.model ledger.new ≡ left (L.Accounts.model ledger.old) (settle_list (settlement_of self.entry)) }
+        ensures writes { sheet.new ≡ carried_sheet (settlement_of self.entry) (L.Accounts.model ledger.old) sheet.old }
         ensures keeps { L.Ledger.kept ledger.old ledger.new }
     {
-        post_all(
-            ledger,
-            &Settling {
-                task: self,
-                numbers,
-            },
-        )?;
+        let postings = Settling {
+            task: self,
+            numbers,
+        };
+        post_all(ledger, &postings)?;
         self.write(numbers, sheet);
         Ok(())
     }
 
     // Settles where the checks have passed.
-    #[tactic(auto, unfolding(crate::specs::Settles::settle_list, crate::specs::Settles::settle_sheet))]
+    #[tactic(auto, using(crate::proofs::Checking::settled_long))]
     fn settle<L: Ledger>(
         self,
         sheet: &mut [u32],
@@ -96,6 +94,7 @@ impl Task<'_> {
 /// than 1,024 orders, 64 blocks or 100 intervals, the sheet has no place for each order and each block and interval, or a working
 /// slice is shorter than the number of entries; with 12 and 13 at the lowest entry; and as the first refused posting is. A refusal
 /// leaves ledger and sheet as they were. The working slices may end with any contents.
+#[tactic(auto, using(crate::proofs::Readiness::ready_from))]
 pub fn settle_interval<L: Ledger>(
     book: Book<'_>,
     fills: Fills<'_>,
@@ -107,8 +106,8 @@ pub fn settle_interval<L: Ledger>(
     ledger: &mut L,
 ) -> Result<i32, SettleRefused>
     ensures answers { result ≡ settle_answer (settlement book.entry fills.entry intervals interval terms) (lengths sheet.old work.old) (L.Accounts.model ledger.old) }
-    ensures posts { L.Accounts.model ledger.new ≡ settle_accounts (settlement book.entry fills.entry intervals interval terms) (lengths sheet.old work.old) (L.Accounts.model ledger.old) }
-    ensures writes { sheet.new ≡ settle_leaves (settlement book.entry fills.entry intervals interval terms) (lengths sheet.old work.old) (L.Accounts.model ledger.old) sheet.old }
+    ensures posts { L.Accounts.model ledger.new ≡ settled_accounts (settlement book.entry fills.entry intervals interval terms) (lengths sheet.old work.old) (L.Accounts.model ledger.old) }
+    ensures writes { sheet.new ≡ settled_sheet (settlement book.entry fills.entry intervals interval terms) (lengths sheet.old work.old) (L.Accounts.model ledger.old) sheet.old }
     ensures keeps { L.Ledger.kept ledger.old ledger.new }
     ensures slices { SameSlices work.old work.new }
     ensures moves { Moved result (conditions terms) (L.Accounts.model ledger.old) (L.Accounts.model ledger.new) sheet.old sheet.new }

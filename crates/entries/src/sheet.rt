@@ -14,6 +14,7 @@ fn put_in_row(row: &mut [u32], interval: u32, number: u32)
 
 impl Task<'_> {
     // Writes the number of the entry at a place.
+    #[tactic(auto, using(crate::proofs::Rows::row_set))]
     fn put(self, sheet: &mut [u32], place: usize, number: u32)
         requires { Fits (length self.book.orders.now) self.intervals self.interval place (length sheet.old) }
         ensures { sheet.new ≡ slice_set sheet.old (place_of (length self.entry.book.orders.now) self.entry.intervals self.entry.interval place) number }

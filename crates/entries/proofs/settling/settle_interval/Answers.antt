@@ -4,9 +4,6 @@ use Rattle.entries.proofs.Readiness.{ready_from}
 use Rattle.entries.proofs.Moving.{moved}
 use Rattle.entries.proofs.settling.settle_interval.Goals as goal
 
-pub settle-requires : goal.settle-requires
-settle-requires g c = ready_from _ _ (sym c.check.ensures ∙ c.in_ok-check.was)
-
 pub returns-clause-moves : goal.returns-clause-moves
 returns-clause-moves g c =
     moved (settlement c.args.book c.args.fills c.args.intervals c.args.interval c.args.terms) _ (ready_from _ _ (sym c.check.ensures ∙ c.in_ok-check.was)) _ _ _ _ _
