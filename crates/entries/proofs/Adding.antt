@@ -1,5 +1,6 @@
 -- What the amounts of an interval's postings add up to.
-use Rattle.std.proofs.Common.{◌≡◌, ℕ, zero, suc, ◌+◌, ◌-◌, ◌<◌, cond, eqb, List, [], ◌∷◌, ◌++◌, length, get_or, ℤ, pos, negsuc, ◌+ℤ◌, ◌*ℤ◌, neg_ℤ, Some, None, sym, refl, ap, ◌∙◌, ap₂, mul-zero, zero-mul, arith}
+use Rattle.std.proofs.Common.{◌≡◌, ℕ, zero, suc, ◌+◌, ◌-◌, ◌<◌, cond, eqb, List, [], ◌∷◌, ◌++◌, length, get_or, ℤ, pos, ◌+ℤ◌, neg_ℤ, Some, None, sym, refl, ap, ◌∙◌, ap₂, arith}
+use Rattle.std.proofs.Math.IntN.{*ℤ-zero, zero-*ℤ}
 use Rattle.std.proofs.lemmas.List.{get_or_append_left, get_or-append_right}
 use Rattle.std.proofs.lemmas.Int.{ints}
 use Rattle.std.proofs.lemmas.Bool.{lt-ltb, le-ltb, eqb-true}
@@ -16,16 +17,8 @@ use Rattle.cuts.specs.Numbers.{net}
 use Rattle.cuts.specs.Settled.{balance}
 use Rattle.posting.specs.Postings.{one, amounts}
 use Rattle.entries.specs.declared.book.Party.{Party}
-use Rattle.entries.specs.Amounts.{Conditions, worth, party_at, order_party, block_party, posting_of, exchange, settle_slot, settle_postings}
+use Rattle.entries.specs.Amounts.{Conditions, worth, party_at, party, posting_of, exchange, settle_slot, settle_postings}
 use Rattle.entries.proofs.Sums.{upto, upto_same, upto_split, amounts_upto, net_upto}
-
-mul_nil : (a : ℤ) → a *ℤ pos 0 ≡ pos 0
-mul_nil (pos a) = ap pos (mul-zero a)
-mul_nil (negsuc a) = ap (λ n. neg_ℤ (pos n)) (mul-zero (suc a))
-
-nil_mul : (a : ℤ) → pos 0 *ℤ a ≡ pos 0
-nil_mul (pos a) = ap pos (zero-mul a)
-nil_mul (negsuc a) = ap (λ n. neg_ℤ (pos n)) (zero-mul (suc a))
 
 pub worth-add : (t : Conditions) (a b : ℤ) → worth t (a +ℤ b) ≡ worth t a +ℤ worth t b
 worth-add t a b = simp (mul-add, add-mul)
@@ -34,7 +27,7 @@ pub worth-neg : (t : Conditions) (a : ℤ) → worth t (neg_ℤ a) ≡ neg_ℤ (
 worth-neg t a = simp (mul-neg, neg-mul)
 
 worth_nil : (t : Conditions) → worth t (pos 0) ≡ pos 0
-worth_nil t = simp (mul_nil, nil_mul)
+worth_nil t = simp (*ℤ-zero, zero-*ℤ)
 
 signed_nil : (s : Side) → signed s 0 ≡ pos 0
 signed_nil Sell = refl
@@ -64,7 +57,7 @@ module _ (os : List Order) (bs : List Block) (ns ms : List ℕ) (t : Conditions)
   order_at k h =
       entry_at k (omega arith)
       ∙ ap₂ (λ (p : Party) (n : ℕ). worth t (signed p.side n))
-      (ap (λ b. cond b (order_party (get_or os k no_order)) (block_party (get_or bs (k - length os) no_block))) (lt-ltb k (length os) h))
+      (ap (λ b. cond b (party orders (get_or os k no_order)) (party blocks (get_or bs (k - length os) no_block))) (lt-ltb k (length os) h))
       (get_or_append_left ns ms 0 k (omega arith))
 
   block_at : (k : ℕ) → k < length bs → amount_at (length os + k) ≡ worth t (signed (blocks.side (get_or bs k no_block)) (get_or ms k 0))
@@ -72,8 +65,8 @@ module _ (os : List Order) (bs : List Block) (ns ms : List ℕ) (t : Conditions)
       let back : (length os + k) - length os ≡ k = omega arith in
       entry_at (length os + k) (omega arith)
       ∙ ap₂ (λ (p : Party) (n : ℕ). worth t (signed p.side n))
-      (ap (λ b. cond b (order_party (get_or os (length os + k) no_order)) (block_party (get_or bs ((length os + k) - length os) no_block))) (le-ltb (length os + k) (length os) (omega arith))
-      ∙ ap (λ j. block_party (get_or bs j no_block)) back)
+      (ap (λ b. cond b (party orders (get_or os (length os + k) no_order)) (party blocks (get_or bs ((length os + k) - length os) no_block))) (le-ltb (length os + k) (length os) (omega arith))
+      ∙ ap (λ j. party blocks (get_or bs j no_block)) back)
       (get_or-append_right ns ms (length os) (length os + k) 0 all_orders (omega arith) ∙ ap (λ j. get_or ms j 0) back)
 
   exchange_at : amount_at (length os + length bs) ≡ worth t (neg_ℤ t.rounded)

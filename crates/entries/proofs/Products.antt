@@ -1,42 +1,40 @@
--- Products of bounded integers.
-use Rattle.std.proofs.Common.{◌≡◌, ℕ, zero, suc, ◌*◌, ◌^◌, ◌<◌, ◌≤◌, true, ℤ, pos, negsuc, ◌-ℤ◌, ◌*ℤ◌, neg_ℤ, nat_abs, refl, mul-le-mul, arith, w64, SFits, to_z, of_z}
-use lib.Signed.{mag}
-use Rattle.std.proofs.lemmas.Int.{ints}
+-- Products of bounded integers: no amount overflows.
+use Rattle.std.proofs.Common.{◌≡◌, ℕ, ◌≤◌, true, ℤ, pos, ◌*ℤ◌, unsigned_abs, mul-le-mul, arith, w32, w64, SFits, to_z, of_z}
+use borrow.Author.Differences.{ints, abs_is}
+use Rattle.std.proofs.lemmas.Int.{to_z-of_z, unsigned_abs-mul, fits_signed_mul}
 use Rattle.std.proofs.lemmas.Bool.Decides.{nat_tests}
 use Rattle.market.proofs.Facts.{priced}
+use Rattle.market.specs.Signed.{Within}
 use Rattle.entries.specs.Lawful.{quarters_ok}
 use Rattle.entries.specs.Amounts.{conditions, worth}
 use Rattle.entries.specs.declared.terms.Terms.{Terms}
 
-abs_neg : (n : ℕ) → nat_abs (neg_ℤ (pos n)) ≡ n
-abs_neg zero = refl
-abs_neg (suc n) = refl
-
-abs-mul : (a b : ℤ) → nat_abs (a *ℤ b) ≡ nat_abs a * nat_abs b
-abs-mul (pos a) (pos b) = refl
-abs-mul (pos a) (negsuc b) = abs_neg (a * suc b)
-abs-mul (negsuc a) (pos b) = abs_neg (suc a * b)
-abs-mul (negsuc a) (negsuc b) = refl
-
-mag_le : (z : ℤ) → mag z ≤ nat_abs z
-mag_le (pos n) = omega arith
-mag_le (negsuc n) = omega arith
-
-pub abs_fits : (z : ℤ) → nat_abs z < 2 ^ 63 → SFits w64 z
-abs_fits z h = record { sfits = omega (arith, mag_le z) }
-
-pub abs_product : (a b : ℤ) (m n : ℕ) → nat_abs a ≤ m → nat_abs b ≤ n → nat_abs (a *ℤ b) ≤ m * n
-abs_product a b m n p q = rw abs-mul (mul-le-mul p q)
-
-pub at_most_four : (q : ℕ) → quarters_ok q ≡ true → q ≤ 4
+at_most_four : (q : ℕ) → quarters_ok q ≡ true → q ≤ 4
 at_most_four q e = grind (arith, nat_tests)
 
--- price × steps, and the amount
-pub priced_small : (t : Terms) (z : ℤ) → nat_abs z ≤ 4294967296 → nat_abs (t.price *ℤ z) ≤ 1717986918400000
-priced_small t z h = abs_product t.price z 400000 4294967296 (priced t.price t.lawful.0) h
+module _ (t : Terms) (z : ℤ) (w : Within 4294967296 z) where
+  -- price × steps
+  priced_small : unsigned_abs (t.price *ℤ z) ≤ 1717986918400000
+  priced_small = let s : unsigned_abs z ≤ 4294967296 = omega (arith, ints, abs_is z) in rw unsigned_abs-mul (mul-le-mul (priced t.price t.lawful.0) s)
 
-pub worth_small : (t : Terms) (z : ℤ) → nat_abs z ≤ 4294967296 → nat_abs (worth (conditions t) z) ≤ 6871947673600000
-worth_small t z h = abs_product (t.price *ℤ z) (pos t.quarters) 1717986918400000 4 (priced_small t z h) (at_most_four t.quarters t.lawful.2)
+  pub priced_fits : SFits w64 (t.price *ℤ z)
+  priced_fits = let s : unsigned_abs z ≤ 4294967296 = omega (arith, ints, abs_is z) in fits_signed_mul w64 t.price z 400000 4294967296 (priced t.price t.lawful.0) s (omega arith)
 
-pub negated_small : (x : ℤ) → SFits w64 x → nat_abs x ≤ 6871947673600000 → to_z w64 (of_z w64 (pos 0 -ℤ to_z w64 (of_z w64 x))) ≡ neg_ℤ x
-negated_small x f h = omega (arith, ints)
+  -- the amount
+  pub worth_small : unsigned_abs (worth (conditions t) z) ≤ 6871947673600000
+  worth_small = rw unsigned_abs-mul (mul-le-mul priced_small (at_most_four t.quarters t.lawful.2))
+
+  pub worth_fits : SFits w64 (worth (conditions t) z)
+  worth_fits = fits_signed_mul w64 (t.price *ℤ z) (pos t.quarters) 1717986918400000 4 priced_small (at_most_four t.quarters t.lawful.2) (omega arith)
+
+  -- the amount as the code computes it, from its price and its quarters as 64-bit numbers
+  pub amount_is : (p q : ℤ) → p ≡ to_z w32 (of_z w32 t.price) → q ≡ pos t.quarters → to_z w64 (of_z w64 (to_z w64 (of_z w64 p) *ℤ to_z w64 (of_z w64 z))) *ℤ to_z w64 (of_z w64 q) ≡ worth (conditions t) z
+  amount_is p q e f =
+      let b = priced t.price t.lawful.0 in
+      let c = at_most_four t.quarters t.lawful.2 in
+      let price : p ≡ t.price = omega (arith, ints, abs_is t.price) in
+      let p64 : to_z w64 (of_z w64 t.price) ≡ t.price = omega (arith, ints, abs_is t.price) in
+      let z64 : to_z w64 (of_z w64 z) ≡ z = omega (arith, ints, w.low, w.high) in
+      let q64 : to_z w64 (of_z w64 (pos t.quarters)) ≡ pos t.quarters = omega (arith, ints) in
+      let product = to_z-of_z w64 (t.price *ℤ z) priced_fits in
+      rw (price, f) (simp (p64, z64, q64, product))

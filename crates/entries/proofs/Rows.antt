@@ -5,8 +5,8 @@ use Rattle.std.proofs.lemmas.List.{set-append_left, set-append_right, take-appen
 use Rattle.entries.specs.Sheet.{Laid, Fits, row_of}
 
 -- a write at j of the row of k numbers from a is a write at a + j of the sheet
-pub row-set : (s : List ℕ) (a k j v : ℕ) → a + k ≤ length s → j < k → put_mid a k s (set (take k (drop a s)) j v) ≡ set s (a + j) v
-row-set s a k j v fits lt =
+pub row_set : (s : List ℕ) (a k j v : ℕ) → a + k ≤ length s → j < k → put_mid a k s (set (take k (drop a s)) j v) ≡ set s (a + j) v
+row_set s a k j v fits lt =
     let len : length (take a s) ≡ a = search (rules, places) in
     let low : a ≤ a + j = omega arith in
     let in_row : j < length (take k (drop a s)) = search (rules, places) in

@@ -3,6 +3,7 @@ use Rattle.std.specs.Prelude.{ℕ, suc, ◌+◌, ◌-◌, cond, List, length, �
 use Rattle.market.specs.declared.records.Order.{Order}
 use Rattle.market.specs.declared.records.Block.{Block}
 use Rattle.market.specs.Blank.{no_order, no_block}
+use Rattle.market.specs.Kinds.{Kind, orders, blocks}
 use Rattle.market.specs.Signed.{signed}
 use Rattle.posting.specs.declared.posting.Posting.{Posting}
 use Rattle.posting.specs.Postings.{listed}
@@ -23,17 +24,13 @@ conditions t = record { price = t.price; rounded = t.rounded; quarters = t.quart
 abbrev pub worth : Conditions → ℤ → ℤ
 worth t steps = (t.price *ℤ steps) *ℤ pos t.quarters
 
--- whose steps an order's are
-abbrev pub order_party : Order → Party
-order_party o = record { side = o.side; account = unsigned_abs o.account }
-
--- whose steps a block's are
-abbrev pub block_party : Block → Party
-block_party b = record { side = b.side; account = unsigned_abs b.account }
+-- whose steps an entry's are
+abbrev pub party : {X : Type 0} → Kind X → X → Party
+party kind x = record { side = kind.side x; account = unsigned_abs (kind.account x) }
 
 -- whose steps those of the entry at a place are, from 0: the orders, then the blocks
 abbrev pub party_at : List Order → List Block → ℕ → Party
-party_at os bs k = cond (nat_lt k (length os)) (order_party (slice_index_or os k no_order)) (block_party (slice_index_or bs (k - length os) no_block))
+party_at os bs k = cond (nat_lt k (length os)) (party orders (slice_index_or os k no_order)) (party blocks (slice_index_or bs (k - length os) no_block))
 
 -- the posting of an entry that is settled at n steps: plus for a sell, minus for a buy, none for 0 steps
 abbrev pub posting_of : Conditions → Party → ℕ → Option Posting

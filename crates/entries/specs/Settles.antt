@@ -2,6 +2,8 @@
 use Rattle.std.specs.Prelude.{◌≡◌, ℕ, ◌+◌, ◌*◌, ◌≤◌, Bool, ◌&&◌, List, [], ◌∷◌, length, ℤ, ◌+ℤ◌, Ok, Err, Result, nat_le, slice_index}
 use Rattle.market.specs.declared.records.Order.{Order}
 use Rattle.market.specs.declared.records.Block.{Block}
+use Rattle.market.specs.declared.records.Book.{Book}
+use Rattle.market.specs.declared.records.Fills.{Fills}
 use Rattle.market.specs.declared.refusal.Refusal.{Refusal}
 use Rattle.market.specs.declared.refusal.Refusal.TheVariants.{NoInterval, Short}
 use Rattle.market.specs.First.{tests, then}
@@ -9,12 +11,60 @@ use Rattle.verdict.specs.Verdict.{paper_checks}
 use Rattle.cuts.specs.Settled.{settled_numbers, remainder_of}
 use Rattle.ledger.specs.declared.account.Account.{Account}
 use Rattle.ledger.specs.declared.refusal.PostRefused.{PostRefused}
-use Rattle.ledger.specs.Model.{total}
+use Rattle.ledger.specs.Model.{total, if_taken}
 use Rattle.posting.specs.declared.posting.Posting.{Posting}
+use Rattle.posting.specs.Postings.{answers, left}
 use Rattle.entries.specs.declared.refused.SettleRefused.{SettleRefused}
 use Rattle.entries.specs.declared.refused.SettleRefused.TheVariants.{Market, Posting as Unposted}
-use Rattle.entries.specs.Amounts.{Conditions, worth, settle_postings}
+use Rattle.entries.specs.declared.task.Task.{Task}
+use Rattle.entries.specs.declared.terms.Terms.{Terms}
+use Rattle.entries.specs.declared.work.Work.{Work}
+use Rattle.entries.specs.Amounts.{Conditions, conditions, worth, settle_postings}
 use Rattle.entries.specs.Sheet.{sheet_with, Laid}
+
+-- what is settled: the entries of a book with their fills, an interval of a day of so many, and its conditions
+pub record Settlement : Type 0 where
+  pub orders : List Order
+  pub order_fills : List ℕ
+  pub blocks : List Block
+  pub block_fills : List ℕ
+  pub intervals : ℕ
+  pub interval : ℕ
+  pub by : Conditions
+
+-- what is settled of a book with its fills by these terms
+abbrev pub settlement : Book → Fills → ℕ → ℕ → Terms → Settlement
+settlement b f n i t = record { orders = b.orders.now; order_fills = f.orders.now; blocks = b.blocks.now; block_fills = f.blocks.now; intervals = n; interval = i; by = conditions t }
+
+-- the same, of a task
+abbrev pub settlement_of : Task → Settlement
+settlement_of t = settlement t.book t.fills t.intervals t.interval t.terms
+
+-- the lengths of the working slices
+pub record WorkLengths : Type 0 where
+  pub numbers : ℕ
+  pub orders : ℕ
+  pub blocks : ℕ
+
+-- the lengths of the memory that settling writes: the sheet and the working slices
+pub record Lengths : Type 0 where
+  pub sheet : ℕ
+  pub work : WorkLengths
+
+-- those of working slices
+abbrev pub work_lengths : Work → WorkLengths
+work_lengths w = record { numbers = length w.numbers.now; orders = length w.orders.now; blocks = length w.blocks.now }
+
+-- those of a sheet and of working slices
+abbrev pub lengths : List ℕ → Work → Lengths
+lengths s w = record { sheet = length s; work = work_lengths w }
+
+-- the same slices, whatever they hold
+pub record SameSlices (w w' : Work) : Type 0 where
+  pub numbers : w'.numbers.ghost_name ≡ w.numbers.ghost_name
+  pub orders : w'.orders.ghost_name ≡ w.orders.ghost_name
+  pub blocks : w'.blocks.ghost_name ≡ w.blocks.ghost_name
+  pub lengths : work_lengths w' ≡ work_lengths w
 
 -- ---- the checks
 
@@ -27,49 +77,53 @@ abbrev pub few : ℕ → ℕ → ℕ → Bool
 few o b n = nat_le o 1024 && (nat_le b 64 && nat_le n 100)
 
 -- working slices of these lengths, for that many entries
-abbrev pub work_ok : ℕ → ℕ → ℕ → ℕ → Bool
-work_ok entries numbers order_list block_list = nat_le entries numbers && (nat_le entries order_list && nat_le entries block_list)
+abbrev pub work_ok : ℕ → WorkLengths → Bool
+work_ok entries w = nat_le entries w.numbers && (nat_le entries w.orders && nat_le entries w.blocks)
 
 -- a sheet and working slices of these lengths, for o orders and b blocks in a day of n intervals
-abbrev pub room_ok : ℕ → ℕ → ℕ → ℕ → ℕ → ℕ → ℕ → Bool
-room_ok o b n sheet numbers order_list block_list = few o b n && (nat_le (o + b * n) sheet && work_ok (o + b) numbers order_list block_list)
+abbrev pub room_ok : ℕ → ℕ → ℕ → Lengths → Bool
+room_ok o b n l = few o b n && (nat_le (o + b * n) l.sheet && work_ok (o + b) l.work)
 
 -- 3, 11, 12, 13: what is looked at before an interval is settled
-unfoldable pub settle_checks : List Order → List ℕ → List Block → List ℕ → ℕ → ℕ → ℕ → ℕ → ℕ → ℕ → Result Unit Refusal
-settle_checks os fs bs gs n i sheet numbers order_list block_list =
-    then (tests ((interval_ok n i, NoInterval) ∷ (room_ok (length os) (length bs) n sheet numbers order_list block_list, Short) ∷ []))
-    (paper_checks n os fs bs gs)
+unfoldable pub settle_checks : Settlement → Lengths → Result Unit Refusal
+settle_checks x l =
+    then (tests ((interval_ok x.intervals x.interval, NoInterval) ∷ (room_ok (length x.orders) (length x.blocks) x.intervals l, Short) ∷ []))
+    (paper_checks x.intervals x.orders x.order_fills x.blocks x.block_fills)
 
 -- a book with lawful fills, and working slices of these lengths
-pub record SizedFor (os : List Order) (fs : List ℕ) (bs : List Block) (gs : List ℕ) (numbers order_list block_list : ℕ) : Type 0 where
-  pub orders : length os ≤ 1024
-  pub blocks : length bs ≤ 64
-  pub order_fills : length fs ≡ length os
-  pub block_fills : length gs ≡ length bs
-  pub work : length os + length bs ≤ numbers
-  pub order_room : length os + length bs ≤ order_list
-  pub block_room : length os + length bs ≤ block_list
-  pub order_small : (k : ℕ) → slice_index fs k ≤ 1000000
-  pub block_small : (k : ℕ) → slice_index gs k ≤ 1000000
+pub record SizedFor (x : Settlement) (w : WorkLengths) : Type 0 where
+  pub orders : length x.orders ≤ 1024
+  pub blocks : length x.blocks ≤ 64
+  pub order_fills : length x.order_fills ≡ length x.orders
+  pub block_fills : length x.block_fills ≡ length x.blocks
+  pub work : length x.orders + length x.blocks ≤ w.numbers
+  pub order_room : length x.orders + length x.blocks ≤ w.orders
+  pub block_room : length x.orders + length x.blocks ≤ w.blocks
+  pub order_small : (k : ℕ) → slice_index x.order_fills k ≤ 1000000
+  pub block_small : (k : ℕ) → slice_index x.block_fills k ≤ 1000000
 
 -- what the checks come to, where they pass
-pub record Ready (os : List Order) (fs : List ℕ) (bs : List Block) (gs : List ℕ) (n i sheet numbers order_list block_list : ℕ) : Type 0 where
-  pub sized : SizedFor os fs bs gs numbers order_list block_list
-  pub laid : Laid (length os) (length bs) n i sheet
+pub record Ready (x : Settlement) (l : Lengths) : Type 0 where
+  pub sized : SizedFor x l.work
+  pub laid : Laid (length x.orders) (length x.blocks) x.intervals x.interval l.sheet
 
 -- ---- what settling does
 
--- the postings of the interval i, whose entries are settled by the cuts
-unfoldable pub settle_list : List Order → List ℕ → List Block → List ℕ → ℕ → Conditions → List Posting
-settle_list os fs bs gs i t = settle_postings os bs (settled_numbers os fs bs gs i t.rounded) t
+-- the numbers of the entries, as the cuts settle them
+unfoldable pub settle_numbers : Settlement → List ℕ
+settle_numbers x = settled_numbers x.orders x.order_fills x.blocks x.block_fills x.interval x.by.rounded
+
+-- the postings of the interval, whose entries are settled by the cuts
+unfoldable pub settle_list : Settlement → List Posting
+settle_list x = settle_postings x.orders x.blocks (settle_numbers x) x.by
 
 -- settled sells less settled buys less R
-unfoldable pub settle_steps : List Order → List ℕ → List Block → List ℕ → ℕ → Conditions → ℤ
-settle_steps os fs bs gs i t = remainder_of os fs bs gs i t.rounded
+unfoldable pub settle_steps : Settlement → ℤ
+settle_steps x = remainder_of x.orders x.order_fills x.blocks x.block_fills x.interval x.by.rounded
 
--- the sheet with the settled numbers of the interval's entries, in a day of n intervals
-unfoldable pub settle_sheet : List Order → List ℕ → List Block → List ℕ → ℕ → ℕ → Conditions → List ℕ → List ℕ
-settle_sheet os fs bs gs n i t s = sheet_with os bs n i (settled_numbers os fs bs gs i t.rounded) s
+-- the sheet with the settled numbers of the interval's entries
+unfoldable pub settle_sheet : Settlement → List ℕ → List ℕ
+settle_sheet x s = sheet_with x.orders x.blocks x.intervals x.interval (settle_numbers x) s
 
 -- the remainder, where all postings are taken
 abbrev pub with_steps : Result (Unit {0}) PostRefused → ℤ → Result ℤ SettleRefused
@@ -85,6 +139,26 @@ checked (Err e) answer = Err (Market e)
 abbrev pub if_checked : {X : Type 0} → Result Unit Refusal → X → X → X
 if_checked (Ok _) x y = x
 if_checked (Err _) x y = y
+
+-- what is answered to postings of a settlement whose checks have passed: the remainder, where all are taken
+abbrev pub carried_answer : Settlement → List Account → Result ℤ SettleRefused
+carried_answer x m = with_steps (answers m (settle_list x)) (settle_steps x)
+
+-- the sheet that such a settlement leaves: written, where all postings are taken
+abbrev pub carried_sheet : Settlement → List Account → List ℕ → List ℕ
+carried_sheet x m s = if_taken (answers m (settle_list x)) (settle_sheet x s) s
+
+-- what settling answers: the foremost refusal, or the remainder
+abbrev pub settle_answer : Settlement → Lengths → List Account → Result ℤ SettleRefused
+settle_answer x l m = checked (settle_checks x l) (carried_answer x m)
+
+-- the accounts that settling leaves: with all postings, or as they were
+abbrev pub settled_accounts : Settlement → Lengths → List Account → List Account
+settled_accounts x l m = if_checked (settle_checks x l) (left m (settle_list x)) m
+
+-- the sheet that settling leaves: with the settled numbers, or as it was
+abbrev pub settled_sheet : Settlement → Lengths → List Account → List ℕ → List ℕ
+settled_sheet x l m s = if_checked (settle_checks x l) (carried_sheet x m s) s
 
 -- Settled, the sum of all balances has moved by the worth of the remainder; refused, accounts and sheet are as they were.
 abbrev pub Moved : Result ℤ SettleRefused → Conditions → List Account → List Account → List ℕ → List ℕ → Type 0

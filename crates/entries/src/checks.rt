@@ -1,32 +1,19 @@
 // What is looked at before an interval is settled.
 ghost use Rattle.std.specs.Prelude.{◌≡◌, ◌+◌, length};
-ghost use Rattle.entries.specs.Settles.{interval_ok, few, work_ok, room_ok, settle_checks};
+ghost use Rattle.entries.specs.Settles.{settlement_of, lengths, interval_ok, few, room_ok, settle_checks};
 
-use market::records::{Book, Fills};
+use super::task::Task;
+use super::work::Work;
+use market::bounds::{MOST_BLOCKS, MOST_INTERVALS, MOST_ORDERS};
 use market::refusal::Refusal;
 use verdict::check_paper;
 
-const FIRST_INTERVAL: u32 = 1;
-
-const MOST_INTERVALS: usize = 100;
-
-const MOST_ORDERS: usize = 1024;
-
-const MOST_BLOCKS: usize = 64;
-
-/// The lengths of the lent slices that settling writes.
-#[derive(Clone, Copy)]
-pub(crate) struct Room {
-    pub sheet: usize,
-    pub numbers: usize,
-    pub order_list: usize,
-    pub block_list: usize,
-}
+const FIRST_INTERVAL: usize = 1;
 
 fn has_interval(intervals: usize, interval: u32) -> bool
     ensures { result ≡ interval_ok intervals interval }
 {
-    FIRST_INTERVAL <= interval && interval as usize <= intervals
+    (FIRST_INTERVAL..=intervals).contains(&(interval as usize))
 }
 
 fn are_few(orders: usize, blocks: usize, intervals: usize) -> bool
@@ -35,45 +22,46 @@ fn are_few(orders: usize, blocks: usize, intervals: usize) -> bool
     orders <= MOST_ORDERS && blocks <= MOST_BLOCKS && intervals <= MOST_INTERVALS
 }
 
-impl Room {
-    fn suffices_for_work(self, entries: usize) -> bool
-        ensures { result ≡ work_ok entries self.numbers self.order_list self.block_list }
-    {
-        entries <= self.numbers && entries <= self.order_list && entries <= self.block_list
-    }
-
-    fn suffices(self, orders: usize, blocks: usize, intervals: usize) -> bool
-        ensures { result ≡ room_ok orders blocks intervals self.sheet self.numbers self.order_list self.block_list }
+impl Work<'_> {
+    // Whether these slices and a sheet suffice.
+    fn suffices(&self, sheet: &[u32], orders: usize, blocks: usize, intervals: usize) -> bool
+        ensures { result ≡ room_ok orders blocks intervals (lengths sheet.now self.now) }
     {
         if !are_few(orders, blocks, intervals) {
             return false;
         }
-        orders + blocks * intervals <= self.sheet && self.suffices_for_work(orders + blocks)
+        let entries = orders + blocks;
+        orders + blocks * intervals <= sheet.len()
+            && entries <= self.numbers.len()
+            && entries <= self.orders.len()
+            && entries <= self.blocks.len()
     }
 }
 
-/// 3 for an interval that the day does not have; 11 for a slice that is too short, more records or intervals than there can be,
-/// or another number of fills than of entries; 12 for a record outside the bounds of entry; 13 for a fill above its quantity.
-pub(crate) fn check_settling(
-    book: Book<'_>,
-    fills: Fills<'_>,
-    intervals: usize,
-    interval: u32,
-    room: Room,
-) -> Result<(), Refusal>
-    ensures { result ≡ settle_checks book.entry.orders.now fills.entry.orders.now book.entry.blocks.now fills.entry.blocks.now intervals interval room.sheet room.numbers room.order_list room.block_list }
-{
-    if !has_interval(intervals, interval) {
-        return Err(Refusal::NoInterval);
+impl Task<'_> {
+    /// 3 for an interval that the day does not have; 11 for a slice that is too short, more records or intervals than there can be,
+    /// or another number of fills than of entries; 12 for a record outside the bounds of entry; 13 for a fill above its quantity.
+    #[tactic(auto, unfolding(crate::specs::Settles::settle_checks))]
+    pub(crate) fn check(self, sheet: &[u32], work: &Work<'_>) -> Result<(), Refusal>
+        ensures { result ≡ settle_checks (settlement_of self.entry) (lengths sheet.now work.now) }
+    {
+        if !has_interval(self.intervals, self.interval) {
+            return Err(Refusal::NoInterval);
+        }
+        if !work.suffices(
+            sheet,
+            self.book.orders.len(),
+            self.book.blocks.len(),
+            self.intervals,
+        ) {
+            return Err(Refusal::Short);
+        }
+        check_paper(
+            self.intervals,
+            self.book.orders,
+            self.fills.orders,
+            self.book.blocks,
+            self.fills.blocks,
+        )
     }
-    if !room.suffices(book.orders.len(), book.blocks.len(), intervals) {
-        return Err(Refusal::Short);
-    }
-    check_paper(
-        intervals,
-        book.orders,
-        fills.orders,
-        book.blocks,
-        fills.blocks,
-    )
 }

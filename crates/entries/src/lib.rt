@@ -9,9 +9,12 @@ mod postings;
 mod refused;
 mod settling;
 mod sheet;
+mod task;
 mod terms;
+mod work;
 
 pub use laws::laws_stand;
 pub use refused::SettleRefused;
 pub use settling::settle_interval;
 pub use terms::Terms;
+pub use work::Work;

@@ -4,33 +4,31 @@ ghost use Rattle.entries.specs.Amounts.{conditions, settle_slot};
 
 use super::amounts::{exchange, posting_of};
 use super::book::party_at;
-use super::terms::Terms;
-use market::records::Book;
+use super::task::Task;
 use posting::{Posting, Source};
 
 /// The postings of settling: by entry, and last minus R's amount to account 0.
 #[derive(Drop)]
 pub(crate) struct Settling<'a, 'b> {
-    pub book: Book<'a>,
+    pub task: Task<'a>,
     pub numbers: &'b [u32],
-    pub terms: Terms,
-    ghost fits: { (length book.orders.now + length book.blocks.now ≤ 1088) × (length book.orders.now + length book.blocks.now ≤ length numbers.now) },
+    ghost few: { length task.book.orders.now + length task.book.blocks.now ≤ 1088 },
+    ghost each: { length numbers.now ≡ length task.book.orders.now + length task.book.blocks.now },
 }
 
 impl<'a, 'b> Source for Settling<'a, 'b> {
-    ghost many = { λ s. suc (length s.book.orders.now + length s.book.blocks.now) };
+    ghost many = { λ s. suc (length s.task.book.orders.now + length s.task.book.blocks.now) };
 
-    ghost slot = { λ s k. settle_slot s.book.orders.now s.book.blocks.now s.numbers.now (conditions s.terms) k };
+    ghost slot = { λ s k. settle_slot s.task.book.orders.now s.task.book.blocks.now s.numbers.now (conditions s.task.terms) k };
 
     fn places(&self) -> usize {
-        self.book.orders.len() + self.book.blocks.len() + 1
+        self.numbers.len() + 1
     }
 
     fn at(&self, place: usize) -> Option<Posting> {
-        if place < self.book.orders.len() + self.book.blocks.len() {
-            posting_of(self.terms, party_at(self.book, place), self.numbers[place])
-        } else {
-            Some(exchange(self.terms))
+        match self.numbers.get(place) {
+            Some(steps) => posting_of(self.task.terms, party_at(self.task.book, place), *steps),
+            None => Some(exchange(self.task.terms)),
         }
     }
 }

@@ -10,3 +10,25 @@ pub enum SettleRefused {
     /// The first posting that is refused.
     Posting(PostRefused),
 }
+
+impl From<Refusal> for SettleRefused {
+    ghost use Rattle.std.specs.Prelude.{◌≡◌};
+    ghost use Rattle.entries.specs.declared.refused.SettleRefused.TheVariants.{Market};
+
+    ghost from_gives = { λ refusal e. e ≡ Market refusal };
+
+    fn from(refusal: Refusal) -> SettleRefused {
+        SettleRefused::Market(refusal)
+    }
+}
+
+impl From<PostRefused> for SettleRefused {
+    ghost use Rattle.std.specs.Prelude.{◌≡◌};
+    ghost use Rattle.entries.specs.declared.refused.SettleRefused.TheVariants.{Posting};
+
+    ghost from_gives = { λ refused e. e ≡ Posting refused };
+
+    fn from(refused: PostRefused) -> SettleRefused {
+        SettleRefused::Posting(refused)
+    }
+}

@@ -3,15 +3,7 @@ ghost use Rattle.std.specs.Prelude.{◌≡◌, ◌+◌, ◌-◌, ◌<◌, ◌≤
 ghost use Rattle.entries.specs.Sheet.{of_interval, place_of, sheet_with, Laid, Fits};
 
 use super::book::is_of;
-use market::records::Book;
-
-/// Where the sheet of a book with so many orders has its numbers of an interval.
-#[derive(Clone, Copy)]
-pub(crate) struct Layout {
-    pub orders: usize,
-    pub intervals: usize,
-    pub interval: u32,
-}
+use super::task::Task;
 
 fn put_in_row(row: &mut [u32], interval: u32, number: u32)
     requires { (1 ≤ interval) × (interval ≤ length row.old) }
@@ -20,39 +12,41 @@ fn put_in_row(row: &mut [u32], interval: u32, number: u32)
     row[interval as usize - 1] = number;
 }
 
-impl Layout {
+impl Task<'_> {
     // Writes the number of the entry at a place.
+    #[tactic(auto, using(crate::proofs::Rows::row_set))]
     fn put(self, sheet: &mut [u32], place: usize, number: u32)
-        requires { Fits self.orders self.intervals self.interval place (length sheet.old) }
-        ensures { sheet.new ≡ slice_set sheet.old (place_of self.orders self.intervals self.interval place) number }
+        requires { Fits (length self.book.orders.now) self.intervals self.interval place (length sheet.old) }
+        ensures { sheet.new ≡ slice_set sheet.old (place_of (length self.entry.book.orders.now) self.entry.intervals self.entry.interval place) number }
     {
-        if place < self.orders {
+        let orders = self.book.orders.len();
+        if place < orders {
             sheet[place] = number;
         } else {
-            let row = self.orders + (place - self.orders) * self.intervals;
+            let row = orders + (place - orders) * self.intervals;
             put_in_row(&mut sheet[row..row + self.intervals], self.interval, number);
         }
     }
-}
 
-// Writes the number of the entry at a place, where it is of the interval.
-fn put_entry(book: Book<'_>, layout: Layout, place: usize, number: u32, sheet: &mut [u32])
-    requires { (place < length book.orders.now + length book.blocks.now) × (Fits layout.orders layout.intervals layout.interval place (length sheet.old)) }
-    ensures { sheet.new ≡ (if of_interval book.entry.orders.now book.entry.blocks.now layout.interval place then slice_set sheet.old (place_of layout.orders layout.intervals layout.interval place) number else sheet.old) }
-{
-    if is_of(book, place, layout.interval) {
-        layout.put(sheet, place, number);
+    // Writes the number of the entry at a place, where it is of the interval.
+    fn put_entry(self, place: usize, number: u32, sheet: &mut [u32])
+        requires { (place < length self.book.orders.now + length self.book.blocks.now) × (Fits (length self.book.orders.now) self.intervals self.interval place (length sheet.old)) }
+        ensures { sheet.new ≡ (if of_interval self.entry.book.orders.now self.entry.book.blocks.now self.entry.interval place then slice_set sheet.old (place_of (length self.entry.book.orders.now) self.entry.intervals self.entry.interval place) number else sheet.old) }
+    {
+        if is_of(self.book, place, self.interval) {
+            self.put(sheet, place, number);
+        }
     }
-}
 
-/// Writes the numbers of an interval's entries into the sheet.
-pub(crate) fn write_numbers(book: Book<'_>, layout: Layout, numbers: &[u32], sheet: &mut [u32])
-    requires laid { Laid (length book.orders.now) (length book.blocks.now) layout.intervals layout.interval (length sheet.old) }
-    requires orders { layout.orders ≡ length book.orders.now }
-    requires numbers { length numbers.now ≡ length book.orders.now + length book.blocks.now }
-    ensures { sheet.new ≡ sheet_with book.entry.orders.now book.entry.blocks.now layout.intervals layout.interval numbers.now sheet.old }
-{
-    for place in 0..numbers.len() {
-        put_entry(book, layout, place, numbers[place], sheet);
+    /// Writes the numbers of an interval's entries into the sheet.
+    #[tactic(auto, unfolding(crate::specs::Sheet::sheet_with))]
+    pub(crate) fn write(self, numbers: &[u32], sheet: &mut [u32])
+        requires laid { Laid (length self.book.orders.now) (length self.book.blocks.now) self.intervals self.interval (length sheet.old) }
+        requires numbers { length numbers.now ≡ length self.book.orders.now + length self.book.blocks.now }
+        ensures { sheet.new ≡ sheet_with self.entry.book.orders.now self.entry.book.blocks.now self.entry.intervals self.entry.interval numbers.now sheet.old }
+    {
+        for (place, number) in numbers.iter().enumerate() {
+            self.put_entry(place, *number, sheet);
+        }
     }
 }
