@@ -1,11 +1,10 @@
 // The numbers of an interval, one for each entry of a kind.
 ghost use Rattle.std.specs.Prelude.{◌≡◌, ℕ, ◌*◌, ◌≤◌, length};
-ghost use Rattle.market.specs.Signed.{signed, Within};
+ghost use Rattle.market.specs.Signed.{Within};
 ghost use Rattle.cuts.specs.Numbers.{number, rounded_numbers, net};
 
 use market::entry::Entry;
 use crate::rounding::nearest;
-use market::records::Side;
 
 fn number<E: Entry>(interval: u32, entry: &E, fill: u32) -> u32
     ensures { result ≡ number E.kind interval entry.now fill }
@@ -33,16 +32,6 @@ pub(crate) fn write_rounded<E: Entry>(
     }
 }
 
-fn signed(side: Side, number: u32) -> i64
-    ensures is { result ≡ signed side number }
-    ensures small { Within 4294967296 result }
-{
-    match side {
-        Side::Sell => number as i64,
-        Side::Buy => -(number as i64),
-    }
-}
-
 // Sells less buys.
 pub(crate) fn net<E: Entry>(entries: &[E], numbers: &[u32]) -> i64
     requires same { length numbers.now ≡ length entries.now }
@@ -52,7 +41,7 @@ pub(crate) fn net<E: Entry>(entries: &[E], numbers: &[u32]) -> i64
 {
     let mut sum = 0;
     for i in 0..entries.len() {
-        sum += signed(entries[i].side(), numbers[i]);
+        sum += entries[i].side().signed(numbers[i]);
     }
     sum
 }

@@ -12,11 +12,8 @@ use crate::gather::{Filled, Stage, gather};
 use crate::numbers::{net, write_rounded};
 use crate::rank::Candidate;
 use crate::stage::run_turns;
+use market::bounds::{MOST_BLOCKS, MOST_ORDERS};
 use market::records::{Block, Order};
-
-const MOST_ORDERS: usize = 1024;
-
-const MOST_BLOCKS: usize = 64;
 
 // One stage: its candidates in rank order, then their turns.
 fn run_stage<C: Candidate + Copy, E: Stands<C>>(
