@@ -27,8 +27,8 @@ pub(crate) fn write_rounded<E: Entry>(
     requires room { length numbers.old ≡ length entries.now }
     ensures { numbers.new ≡ rounded_numbers E.kind interval entries.now fills.now }
 {
-    for i in 0..entries.len() {
-        numbers[i] = number(interval, &entries[i], fills[i]);
+    for (place, (entry, fill)) in entries.iter().zip(fills).enumerate() {
+        numbers[place] = number(interval, entry, *fill);
     }
 }
 
@@ -40,8 +40,8 @@ pub(crate) fn net<E: Entry>(entries: &[E], numbers: &[u32]) -> i64
     ensures small { Within (4294967296 * 1024) result }
 {
     let mut sum = 0;
-    for i in 0..entries.len() {
-        sum += entries[i].side().signed(numbers[i]);
+    for (entry, number) in entries.iter().zip(numbers) {
+        sum += entry.side().signed(*number);
     }
     sum
 }
