@@ -15,9 +15,35 @@ pub struct BlockCandidate {
     pub entry: usize,
 }
 
+impl BlockCandidate {
+    /// What a list holds before it is gathered.
+    pub const BLANK: BlockCandidate = BlockCandidate {
+        steps: 0,
+        limit: 0,
+        stamp: 0,
+        account: 0,
+        entry: 0,
+    };
+}
+
 /// An order to be cut: it ranks by its market, then as a block does.
 #[derive(Clone, Copy)]
 pub struct OrderCandidate {
     pub market: Market,
     pub rest: BlockCandidate,
+}
+
+impl OrderCandidate {
+    /// What a list holds before it is gathered.
+    pub const BLANK: OrderCandidate = OrderCandidate {
+        market: Market::Spot,
+        rest: BlockCandidate::BLANK,
+    };
+}
+
+/// Working memory for the two rankings of an interval: a place for each possible candidate.
+#[derive(Drop)]
+pub struct Lists<'a> {
+    pub orders: &'a mut [OrderCandidate],
+    pub blocks: &'a mut [BlockCandidate],
 }

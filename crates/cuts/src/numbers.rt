@@ -3,8 +3,9 @@ ghost use Rattle.std.specs.Prelude.{◌≡◌, ℕ, ◌*◌, ◌≤◌, length};
 ghost use Rattle.market.specs.Signed.{Within};
 ghost use Rattle.cuts.specs.Numbers.{number, rounded_numbers, net};
 
-use market::entry::Entry;
+use crate::paper::Paper;
 use crate::rounding::nearest;
+use market::entry::Entry;
 
 fn number<E: Entry>(interval: u32, entry: &E, fill: u32) -> u32
     ensures { result ≡ number E.kind interval entry.now fill }
@@ -17,17 +18,11 @@ fn number<E: Entry>(interval: u32, entry: &E, fill: u32) -> u32
 }
 
 // Writes the rounded number of each entry.
-pub(crate) fn write_rounded<E: Entry>(
-    entries: &[E],
-    fills: &[u32],
-    interval: u32,
-    numbers: &mut [u32],
-)
-    requires fills { length fills.now ≡ length entries.now }
-    requires room { length numbers.old ≡ length entries.now }
-    ensures { numbers.new ≡ rounded_numbers E.kind interval entries.now fills.now }
+pub(crate) fn write_rounded<E: Entry>(paper: &Paper<'_, E>, interval: u32, numbers: &mut [u32])
+    requires { length numbers.old ≡ length paper.now.entries.now }
+    ensures { numbers.new ≡ rounded_numbers E.kind interval paper.now.entries.now paper.now.fills.now }
 {
-    for (place, (entry, fill)) in entries.iter().zip(fills).enumerate() {
+    for (place, (entry, fill)) in paper.entries.iter().zip(paper.fills).enumerate() {
         numbers[place] = number(interval, entry, *fill);
     }
 }

@@ -8,8 +8,8 @@ use Rattle.cuts.proofs.numbers.write_rounded.Goals as goal
 
 pub loop-place-preserved : goal.loop-place-preserved
 loop-place-preserved g c =
-    let xs = c.args.entries.now in
-    let fs = c.args.fills.now in
+    let xs = c.args.paper.now.entries.now in
+    let fs = c.args.paper.now.fills.now in
     let road = YieldsList-from_enumerate (YieldsList-from_zip (YieldsList-from_slice xs (cc)) (YieldsList-from_slice fs (cc))) cc in
     let t = YieldsList-turn road c.loop-place.yielded _ c.loop-place.yielded_by _ c.next.new.self _ c.in-Some.is c.next.ensures.steps in
     let r = reads_numbered xs fs (length c.loop-place.yielded) _ t.0 t.1 in
@@ -23,8 +23,8 @@ loop-place-preserved g c =
 
 pub returns : goal.returns
 returns g c =
-    let xs = c.args.entries.now in
-    let fs = c.args.fills.now in
+    let xs = c.args.paper.now.entries.now in
+    let fs = c.args.paper.now.fills.now in
     let road = YieldsList-from_enumerate (YieldsList-from_zip (YieldsList-from_slice xs (cc)) (YieldsList-from_slice fs (cc))) cc in
     let t = YieldsList-end road c.loop-place.yielded _ c.loop-place.yielded_by _ c.next.new.self c.in-None.is c.next.ensures.steps in
     let n = length-numbered xs fs in
