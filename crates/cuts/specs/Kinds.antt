@@ -15,7 +15,7 @@ price_key Buy limit = neg_ℤ limit
 
 -- what ranks an entry of a kind with so many rounded steps, at a place among the entries of its kind
 abbrev pub ranking : {X : Type 0} → Kind X → X → ℕ → ℕ → BlockCandidate
-ranking kind x n k = record { steps = n; limit = price_key (kind.side x) (kind.limit x); stamp = kind.stamp x; account = kind.account x; entry = k }
+ranking kind x n k = record { steps = record { 0 = n }; limit = price_key (kind.side x) (kind.limit x); stamp = kind.stamp x; account = kind.account x; entry = k }
 
 -- the candidate of a block
 abbrev pub block_stands : Block → ℕ → ℕ → BlockCandidate

@@ -1,11 +1,13 @@
-// The candidates of a stage. Their fields are exactly what ranks them, the first deciding before the second.
+// The candidates of a stage. Their fields are exactly what ranks them, the first deciding before the second, so that their order
+// is the derived one: the lesser precedes.
 use market::records::Market;
+use std::cmp::Reverse;
 
 /// A block to be cut.
-#[derive(Clone, Copy)]
+#[derive(Clone, Copy, PartialEq, Eq, PartialOrd, Ord, Debug)]
 pub struct BlockCandidate {
     /// Its rounded quantity: the larger precedes.
-    pub steps: u32,
+    pub steps: Reverse<u32>,
     /// The limit of a sell, the negated limit of a buy: the lower precedes.
     pub limit: i64,
     /// The earlier precedes.
@@ -18,7 +20,7 @@ pub struct BlockCandidate {
 impl BlockCandidate {
     /// What a list holds before it is gathered.
     pub const BLANK: BlockCandidate = BlockCandidate {
-        steps: 0,
+        steps: Reverse(0),
         limit: 0,
         stamp: 0,
         account: 0,
@@ -27,7 +29,7 @@ impl BlockCandidate {
 }
 
 /// An order to be cut: it ranks by its market, then as a block does.
-#[derive(Clone, Copy)]
+#[derive(Clone, Copy, PartialEq, Eq, PartialOrd, Ord, Debug)]
 pub struct OrderCandidate {
     pub market: Market,
     pub rest: BlockCandidate,

@@ -5,6 +5,7 @@ ghost use Rattle.cuts.specs.Kinds.{order_stands, block_stands, price_key, rankin
 use crate::candidates::{BlockCandidate, OrderCandidate};
 use market::entry::Entry;
 use market::records::{Block, Order, Side};
+use std::cmp::Reverse;
 
 /// An entry that can be a candidate of a stage of cuts.
 pub trait Stands<C>: Entry {
@@ -30,7 +31,7 @@ fn ranking<E: Entry>(entry: &E, steps: u32, place: usize) -> BlockCandidate
     ensures { result ≡ ranking E.kind entry.now steps place }
 {
     BlockCandidate {
-        steps,
+        steps: Reverse(steps),
         limit: price_key(entry.side(), entry.limit()),
         stamp: entry.stamp(),
         account: entry.account(),

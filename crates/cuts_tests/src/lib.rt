@@ -9,6 +9,7 @@ mod tests {
     use cuts::rounding::nearest;
     use cuts::settled::{rounded_numbers, settled_numbers};
     use market::records::{Block, Book, Fills, Market, Order, Side};
+    use std::cmp::Reverse;
     use std::test::Fail;
 
     const SELL: Order = Order {
@@ -345,16 +346,16 @@ mod tests {
     #[test]
     fn inserts_in_rank(rt: HostRuntime) {
         let small = BlockCandidate {
-            steps: 2,
+            steps: Reverse(2),
             ..BlockCandidate::BLANK
         };
         let large = BlockCandidate {
-            steps: 9,
+            steps: Reverse(9),
             entry: 1,
             ..BlockCandidate::BLANK
         };
         let second = BlockCandidate {
-            steps: 2,
+            steps: Reverse(2),
             entry: 2,
             ..BlockCandidate::BLANK
         };
