@@ -1,8 +1,17 @@
 -- One step of a loop over entries with their fills or numbers: what is left still gives the whole.
-use Rattle.std.proofs.Common.{◌≡◌, ℕ, zero, suc, ◌+◌, ◌*◌, ◌<◌, ◌≤◌, min, Bool, true, false, cond, List, [], ◌∷◌, ◌++◌, length, get_or, take, drop, set, pos, ◌+ℤ◌, nat_abs, fold, sym, refl, ap, ◌∙◌, ap₂, add-mul, arith}
+use Rattle.std.proofs.Common.{Iter, Option, Some, ◌≡◌, ℕ, zero, suc, ◌+◌, ◌*◌, ◌<◌, ◌≤◌, min, Bool, true, false, cond, List, [], ◌∷◌, ◌++◌, length, get_or, take, drop, set, pos, ◌+ℤ◌, nat_abs, fold, sym, refl, ap, ◌∙◌, ap₂, add-mul, arith}
 use borrow.Author.Differences.{ints}
 use Rattle.market.specs.declared.records.Side.{Side}
 use Rattle.market.specs.declared.records.Side.TheVariants.{Sell, Buy}
+use denote.Ref.{Bor}
+use Rattle.std.specs.declared.iter.Zip.{Zip}
+use Rattle.std.specs.declared.iter.Enumerate.{Enumerate}
+use Rattle.std.specs.Iterator.{Yields}
+use Rattle.std.specs.Iterator.Adapters.{zip_first, zip_second, enumerate_source, enumerate_count, enumerate_steps}
+use Rattle.std.specs.Slice.Iter.{iter_rest}
+use Rattle.std.proofs.iter.Yields.{fronts}
+use Rattle.std.proofs.lemmas.Iterator.{zips, YieldsList-from_slice, YieldsList-from_zip}
+use Rattle.std.proofs.lemmas.Iterator.Consumers.{YieldsList-from_enumerate, YieldsList-turn}
 use Rattle.std.specs.List.{zip, enumerate_from}
 use Rattle.std.proofs.lemmas.Slice.Zip.{length-zip, get_or-zip}
 use Rattle.std.proofs.lemmas.List.FromFn.{length-enumerate_from, get_or-enumerate_from}
@@ -27,19 +36,23 @@ pub record Reads {X : Type 0} (xs : List X) (fs : List ℕ) (i : ℕ) (x : X) (f
   pub entry : x ≡ get_or xs i x
   pub fill : f ≡ get_or fs i 0
 
-pub length-numbered : {X : Type 0} (xs : List X) (fs : List ℕ) → length (enumerate_from 0 (zip xs fs)) ≡ min (length xs) (length fs)
-length-numbered xs fs = length-enumerate_from 0 (zip xs fs) ∙ length-zip xs fs
-
-pub reads_numbered : {X : Type 0} (xs : List X) (fs : List ℕ) (i : ℕ) (p : ℕ × (X × ℕ))
-    → i < length (enumerate_from 0 (zip xs fs)) → p ≡ get_or (enumerate_from 0 (zip xs fs)) i p → (p.0 ≡ i) × Reads xs fs i p.1.0 p.1.1
-reads_numbered {X} xs fs i p h e =
-    let n = length-numbered xs fs in
-    let l = length-zip xs fs in
-    let a : i < length xs = omega arith in
-    let b : i < length fs = omega arith in
-    let q = e ∙ get_or-enumerate_from 0 (zip xs fs) i p (omega arith) ∙ ap (λ y. (0 + i, y)) (get_or-zip xs fs i p.1 a b) in
-    let z : p.0 ≡ 0 + i = ap (λ (y : ℕ × (X × ℕ)). y.0) q in
-    (omega arith, record { in-xs = a; in-fs = b; entry = ap (λ (y : ℕ × (X × ℕ)). y.1.0) q; fill = ap (λ (y : ℕ × (X × ℕ)). y.1.1) q ∙ get_or_default fs i p.1.1 0 b })
+-- a loop over the entries with their fills, numbered from 0, which has yielded ys: what a turn reads
+pub numbered_turn : {X : Type 0} (xs : List X) (fs : List ℕ) (ys : List (ℕ × (Bor X × Bor ℕ))) (s t u : Enumerate (Zip (Iter X) (Iter ℕ))) (r : Option (ℕ × (Bor X × Bor ℕ))) (p : ℕ × (Bor X × Bor ℕ))
+    → iter_rest (zip_first (enumerate_source s)) ≡ xs → iter_rest (zip_second (enumerate_source s)) ≡ fs → enumerate_count s ≡ 0
+    → Yields (enumerate_steps (zips fronts fronts)) s ys t → r ≡ Some p → enumerate_steps (zips fronts fronts) t r u
+    → (p.0 ≡ length ys) × Reads xs fs (length ys) p.1.0.now p.1.1.now
+numbered_turn {X} xs fs ys s t u r p a b n y e k =
+    let road = YieldsList-from_enumerate (YieldsList-from_zip (YieldsList-from_slice xs a) (YieldsList-from_slice fs b)) n in
+    let w = YieldsList-turn road ys t y r u p e k in
+    let i = length ys in
+    let q : ℕ × (X × ℕ) = (p.0, (p.1.0.now, p.1.1.now)) in
+    let l : length (enumerate_from 0 (zip xs fs)) ≡ min (length xs) (length fs) = length-enumerate_from 0 (zip xs fs) ∙ length-zip xs fs in
+    let m = length-zip xs fs in
+    let in-xs : i < length xs = omega (arith, w.0) in
+    let in-fs : i < length fs = omega (arith, w.0) in
+    let at = w.1 ∙ get_or-enumerate_from 0 (zip xs fs) i q (omega (arith, w.0)) ∙ ap (λ z. (0 + i, z)) (get_or-zip xs fs i q.1 in-xs in-fs) in
+    let z : p.0 ≡ 0 + i = ap (λ (v : ℕ × (X × ℕ)). v.0) at in
+    (omega arith, record { in-xs = in-xs; in-fs = in-fs; entry = ap (λ (v : ℕ × (X × ℕ)). v.1.0) at; fill = ap (λ (v : ℕ × (X × ℕ)). v.1.1) at ∙ get_or_default fs i p.1.1.now 0 in-fs })
 
 -- the element at i, by what was read there
 read_more : {X : Type 0} (xs : List X) (i : ℕ) (x : X) → i < length xs → x ≡ get_or xs i x → drop i xs ≡ x ∷ drop (i + 1) xs

@@ -24,10 +24,3 @@ loop-entry-preserved g c =
     let m = c.signed-sum.ensures.small in
     let v = c.loop-entry.invariant in
     (search rules, search rules, rw n (omega (arith, ints)), rw n (record { low = omega (arith, ints); high = omega (arith, ints) }))
-
-pub returns : goal.returns
-returns g c =
-    let t = zip_end c.args.entries.now c.args.numbers.now c.loop-entry.yielded c.into_iter-entry-iterator.result _ c.next.new.self _ (cc) (cc) c.loop-entry.yielded_by c.in-None.is c.next.ensures.steps in
-    let w = net_all g.E.Entry.kind c.args.entries.now c.args.numbers.now (length c.loop-entry.yielded) (omega arith) in
-    let v = c.loop-entry.invariant in
-    record { is = omega (arith, ints); small = record { low = omega (arith, ints); high = omega (arith, ints) } }
