@@ -1,7 +1,7 @@
 // From a book, its fills, an interval and R to the settled numbers.
 ghost use Rattle.std.specs.Prelude.{◌≡◌, ℕ, ◌+◌, ◌≤◌, true, ◌&&◌, ◌++◌, length, take, drop, ℤ, if◌then◌else◌, Some, None};
 ghost use Rattle.cuts.specs.Numbers.{rounded_numbers};
-ghost use Rattle.market.specs.Kinds.{orders as orders_kind, blocks as blocks_kind};
+ghost use Rattle.market.specs.Kinds.{orders, blocks};
 ghost use Rattle.cuts.specs.Stages.{last_step, stage_cut};
 ghost use Rattle.cuts.specs.SettledLaws.{Settles};
 ghost use Rattle.cuts.specs.Settled.{ranked_places, stage_of, two_stages, balance, gap_of, orders_cut, blocks_cut, settled_numbers, remainder_of, sizes_fit, lists_fit, Sizes};
@@ -63,10 +63,11 @@ fn sizes_fit(book: Book<'_>, fills: Fills<'_>, numbers: usize) -> bool
 {
     let orders = book.orders.len();
     let blocks = book.blocks.len();
-    if orders > MOST_ORDERS || blocks > MOST_BLOCKS {
-        return false;
-    }
-    fills.orders.len() == orders && fills.blocks.len() == blocks && orders + blocks <= numbers
+    orders <= MOST_ORDERS
+        && blocks <= MOST_BLOCKS
+        && fills.orders.len() == orders
+        && fills.blocks.len() == blocks
+        && orders + blocks <= numbers
 }
 
 fn lists_fit(book: Book<'_>, order_list: usize, block_list: usize) -> bool
@@ -109,7 +110,7 @@ impl Rounding<'_> {
     // Writes the rounded numbers, those of the orders first.
     fn write(&self, numbers: &mut [u32])
         requires { length self.now.book.orders.now + length self.now.book.blocks.now ≤ length numbers.old }
-        ensures { numbers.new ≡ rounded_numbers orders_kind self.now.interval self.now.book.orders.now self.now.fills.orders.now ++ (rounded_numbers blocks_kind self.now.interval self.now.book.blocks.now self.now.fills.blocks.now ++ drop (length self.now.book.orders.now + length self.now.book.blocks.now) numbers.old) }
+        ensures { numbers.new ≡ rounded_numbers orders self.now.interval self.now.book.orders.now self.now.fills.orders.now ++ (rounded_numbers blocks self.now.interval self.now.book.blocks.now self.now.fills.blocks.now ++ drop (length self.now.book.orders.now + length self.now.book.blocks.now) numbers.old) }
     {
         let count = self.book.orders.len();
         let end = count + self.book.blocks.len();
@@ -132,8 +133,8 @@ impl Rounding<'_> {
     fn cut(&self, gap: i64, lists: &mut Lists<'_>, numbers: &mut [u32])
         requires room { length self.now.book.orders.now + length self.now.book.blocks.now ≤ length numbers.old }
         requires lists { (length self.now.book.orders.now ≤ length lists.old.orders.now) × (length self.now.book.blocks.now ≤ length lists.old.blocks.now) }
-        requires orders { take (length self.now.book.orders.now) numbers.old ≡ rounded_numbers orders_kind self.now.interval self.now.book.orders.now self.now.fills.orders.now }
-        requires blocks { take (length self.now.book.blocks.now) (drop (length self.now.book.orders.now) numbers.old) ≡ rounded_numbers blocks_kind self.now.interval self.now.book.blocks.now self.now.fills.blocks.now }
+        requires orders { take (length self.now.book.orders.now) numbers.old ≡ rounded_numbers orders self.now.interval self.now.book.orders.now self.now.fills.orders.now }
+        requires blocks { take (length self.now.book.blocks.now) (drop (length self.now.book.orders.now) numbers.old) ≡ rounded_numbers blocks self.now.interval self.now.book.blocks.now self.now.fills.blocks.now }
         ensures { numbers.new ≡ (orders_cut self.now.book.orders.now self.now.fills.orders.now self.now.interval gap).numbers ++ ((blocks_cut self.now.book.blocks.now self.now.fills.blocks.now self.now.interval gap (orders_cut self.now.book.orders.now self.now.fills.orders.now self.now.interval gap).left).numbers ++ drop (length self.now.book.orders.now + length self.now.book.blocks.now) numbers.old) }
     {
         let count = self.book.orders.len();
@@ -160,7 +161,7 @@ impl Rounding<'_> {
     fn round(&self, numbers: &mut [u32]) -> i64
         requires { length self.now.book.orders.now + length self.now.book.blocks.now ≤ length numbers.old }
         ensures gap { result ≡ gap_of self.now.book.orders.now self.now.fills.orders.now self.now.book.blocks.now self.now.fills.blocks.now self.now.interval self.now.rounded }
-        ensures numbers { numbers.new ≡ rounded_numbers orders_kind self.now.interval self.now.book.orders.now self.now.fills.orders.now ++ (rounded_numbers blocks_kind self.now.interval self.now.book.blocks.now self.now.fills.blocks.now ++ drop (length self.now.book.orders.now + length self.now.book.blocks.now) numbers.old) }
+        ensures numbers { numbers.new ≡ rounded_numbers orders self.now.interval self.now.book.orders.now self.now.fills.orders.now ++ (rounded_numbers blocks self.now.interval self.now.book.blocks.now self.now.fills.blocks.now ++ drop (length self.now.book.orders.now + length self.now.book.blocks.now) numbers.old) }
     {
         self.write(numbers);
         self.balance(numbers)
@@ -189,7 +190,7 @@ pub fn rounded_numbers(
     numbers: &mut [u32],
 ) -> Option<i64>
     ensures gap { result ≡ (if sizes_fit (length book.entry.orders.now) (length fills.entry.orders.now) (length book.entry.blocks.now) (length fills.entry.blocks.now) (length numbers.old) then Some (gap_of book.entry.orders.now fills.entry.orders.now book.entry.blocks.now fills.entry.blocks.now interval rounded) else None) }
-    ensures numbers { numbers.new ≡ (if sizes_fit (length book.entry.orders.now) (length fills.entry.orders.now) (length book.entry.blocks.now) (length fills.entry.blocks.now) (length numbers.old) then rounded_numbers orders_kind interval book.entry.orders.now fills.entry.orders.now ++ (rounded_numbers blocks_kind interval book.entry.blocks.now fills.entry.blocks.now ++ drop (length book.entry.orders.now + length book.entry.blocks.now) numbers.old) else numbers.old) }
+    ensures numbers { numbers.new ≡ (if sizes_fit (length book.entry.orders.now) (length fills.entry.orders.now) (length book.entry.blocks.now) (length fills.entry.blocks.now) (length numbers.old) then rounded_numbers orders interval book.entry.orders.now fills.entry.orders.now ++ (rounded_numbers blocks interval book.entry.blocks.now fills.entry.blocks.now ++ drop (length book.entry.orders.now + length book.entry.blocks.now) numbers.old) else numbers.old) }
 {
     if !sizes_fit(book, fills, numbers.len()) {
         return None;
@@ -218,10 +219,9 @@ pub fn settled_numbers(
     ensures refused { result ≡ None → (lists.new.orders.now ≡ lists.old.orders.now) × (lists.new.blocks.now ≡ lists.old.blocks.now) }
     ensures laws { Settles book.entry.orders.now fills.entry.orders.now book.entry.blocks.now fills.entry.blocks.now interval rounded }
 {
-    if !sizes_fit(book, fills, numbers.len()) {
-        return None;
-    }
-    if !lists_fit(book, lists.orders.len(), lists.blocks.len()) {
+    if !sizes_fit(book, fills, numbers.len())
+        || !lists_fit(book, lists.orders.len(), lists.blocks.len())
+    {
         return None;
     }
     let rounding = Rounding {

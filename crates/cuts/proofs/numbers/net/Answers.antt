@@ -1,9 +1,9 @@
-use Rattle.std.proofs.Common.{◌≡◌, ◌+◌, List, [], ◌∷◌, ◌++◌, length, ap, ◌∙◌, arith, rules}
+use Rattle.std.proofs.Common.{◌≡◌, length, ap, ◌∙◌, arith, rules}
 use borrow.Author.Differences.{ints}
 use Rattle.std.proofs.lemmas.List.{length_push}
-use Rattle.std.proofs.lemmas.Slice.Zip.{zip_turn, zip_end}
+use Rattle.std.proofs.lemmas.Slice.Zip.{zip_turn}
 use Rattle.market.specs.Signed.{signed}
-use Rattle.cuts.proofs.Walks.{net_more, net_all}
+use Rattle.cuts.proofs.Walks.{net_more}
 use Rattle.cuts.proofs.numbers.net.Goals as goal
 
 pub overflow_add-sum : goal.overflow_add-sum

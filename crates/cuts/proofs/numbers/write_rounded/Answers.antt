@@ -1,7 +1,6 @@
-use Rattle.std.proofs.Common.{◌≡◌, ◌+◌, ◌++◌, length, take, drop, set, sym, ap, ap₂, ◌∙◌, arith, rules}
+use Rattle.std.proofs.Common.{length, ◌∙◌, arith, rules}
 use Rattle.std.proofs.lemmas.List.{length_push}
-use Rattle.cuts.specs.Numbers.{number}
-use Rattle.cuts.proofs.Walks.{numbered_turn, rounded_more, rounded_all}
+use Rattle.cuts.proofs.Walks.{numbered_turn, rounded_more}
 use Rattle.cuts.proofs.numbers.write_rounded.Goals as goal
 
 pub loop-place-preserved : goal.loop-place-preserved

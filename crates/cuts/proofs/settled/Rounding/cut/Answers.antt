@@ -1,8 +1,8 @@
 use Rattle.std.proofs.Common.{◌≡◌, ◌+◌, ◌-◌, ◌++◌, length, take, drop, nat_abs, ap, ◌∙◌, ap₂, arith, w64, to_z, of_z}
 use Rattle.std.proofs.lemmas.List.{length-take, length-drop}
 use Rattle.std.proofs.lemmas.Int.{to_z-of_z}
-use Rattle.cuts.specs.Stages.{last_step, Cut}
-use Rattle.cuts.specs.Settled.{orders_cut, two_stages, order_places, block_places, stage_of}
+use Rattle.cuts.specs.Stages.{Cut}
+use Rattle.cuts.specs.Settled.{orders_cut}
 use Rattle.cuts.proofs.Parts.{both_written, second_kept}
 use Rattle.cuts.proofs.Cutting.{orders_cut_is, blocks_cut_is}
 use Rattle.cuts.proofs.settled.Rounding.cut.Goals as goal
