@@ -13,20 +13,20 @@ use Rattle.cuts.proofs.Parts.{first_part, second_part}
 use Rattle.cuts.proofs.Walks.{length-rounded}
 use Rattle.cuts.proofs.Turns.{length-turns}
 
-pub orders_cut_is : (os : List Order) (fs : List ℕ) (i : ℕ) (gap gap' : ℤ) (ns : List ℕ) (k : ℕ) → gap' ≡ gap → ns ≡ rounded_numbers orders i os fs → k ≡ nat_abs gap
-    → two_stages last_step (λ f. order_places os fs (stage_of i gap' f)) ns k ≡ orders_cut os fs i gap
+pub orders_cut_is : (os os' : List Order) (fs fs' : List ℕ) (i : ℕ) (gap gap' : ℤ) (ns : List ℕ) (k : ℕ) → os' ≡ os → fs' ≡ fs → gap' ≡ gap → ns ≡ rounded_numbers orders i os fs → k ≡ nat_abs gap
+    → two_stages last_step (λ f. order_places os' fs' (stage_of i gap' f)) ns k ≡ orders_cut os fs i gap
 unfolding orders_cut
-orders_cut_is os fs i gap gap' ns k e f h = rw (e, f, h) refl
+orders_cut_is os os' fs fs' i gap gap' ns k a b e f h = rw (a, b, e, f, h) refl
 
-pub blocks_cut_is : (bs : List Block) (gs : List ℕ) (i : ℕ) (gap gap' : ℤ) (ns : List ℕ) (k left : ℕ) → gap' ≡ gap → ns ≡ rounded_numbers blocks i bs gs → k ≡ left
-    → two_stages last_step (λ f. block_places bs gs (stage_of i gap' f)) ns k ≡ blocks_cut bs gs i gap left
+pub blocks_cut_is : (bs bs' : List Block) (gs gs' : List ℕ) (i : ℕ) (gap gap' : ℤ) (ns : List ℕ) (k left : ℕ) → bs' ≡ bs → gs' ≡ gs → gap' ≡ gap → ns ≡ rounded_numbers blocks i bs gs → k ≡ left
+    → two_stages last_step (λ f. block_places bs' gs' (stage_of i gap' f)) ns k ≡ blocks_cut bs gs i gap left
 unfolding blocks_cut
-blocks_cut_is bs gs i gap gap' ns k left e f h = rw (e, f, h) refl
+blocks_cut_is bs bs' gs gs' i gap gap' ns k left a b e f h = rw (a, b, e, f, h) refl
 
-pub balance_is : (os : List Order) (bs : List Block) (xs ns ms rest : List ℕ) (r r' : ℤ) → r' ≡ r → length ns ≡ length os → length ms ≡ length bs → xs ≡ ns ++ (ms ++ rest)
-    → balance os bs (take (length os) xs) (take (length bs) (drop (length os) xs)) r' ≡ balance os bs ns ms r
-balance_is os bs xs ns ms rest r r' e f g h =
-    rw e (ap₂ (λ u v. balance os bs u v r) (first_part (length os) (length bs) xs ns ms rest f g h) (second_part (length os) (length bs) xs ns ms rest f g h))
+pub balance_is : (os : List Order) (bs : List Block) (xs ns ms rest : List ℕ) (r : ℤ) → length ns ≡ length os → length ms ≡ length bs → xs ≡ ns ++ (ms ++ rest)
+    → balance os bs (take (length os) xs) (take (length bs) (drop (length os) xs)) r ≡ balance os bs ns ms r
+balance_is os bs xs ns ms rest r f g h =
+    ap₂ (λ u v. balance os bs u v r) (first_part (length os) (length bs) xs ns ms rest f g h) (second_part (length os) (length bs) xs ns ms rest f g h)
 
 pub sizes_from : (o of b bf n : ℕ) → sizes_fit o of b bf n ≡ true → Sizes o of b bf n
 sizes_from o of b bf n h =

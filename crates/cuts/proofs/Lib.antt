@@ -12,3 +12,4 @@ pub mod TwoStages
 pub mod Remainders
 pub mod Ranking
 pub mod Smallest
+pub mod Lesser

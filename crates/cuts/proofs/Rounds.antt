@@ -5,14 +5,12 @@ use Rattle.std.proofs.lemmas.Nat.{div-add-mod', div-mul-add, mod-mul-add, mod_be
 use Rattle.std.proofs.lemmas.List.{length-set, get_or-set_same, get_or-set_other}
 use Rattle.std.proofs.lemmas.Bool.{cases_eq, cases_lt, le-leb, lt-leb, cond-true, cond-false}
 use Rattle.std.proofs.lemmas.Bool.Decides.{nat_tests, eqb_tells}
+use Rattle.cuts.proofs.Place.{three_ways}
 use Rattle.cuts.specs.Stages.{next_turn, smallest, ahead, open_cuts}
 
 -- what the candidate of rank r among n has lost after k cuts
 abbrev pub lost : ℕ → ℕ → ℕ → ℕ
 lost n k r = k / n + cond (ltb r (k % n)) 1 0
-
-three_ways : (a b : ℕ) → (a < b) ⊎ ((a ≡ b) ⊎ (b < a))
-three_ways a b = grind arith
 
 min_ways : (a b : ℕ) → (min a b ≡ a) ⊎ (min a b ≡ b)
 min_ways a b = grind arith

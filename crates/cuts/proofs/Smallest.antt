@@ -1,38 +1,27 @@
--- The smallest quantity and who holds it first, as loops find them.
-use Rattle.std.proofs.Common.{◌≡◌, ℕ, suc, ◌+◌, ◌-◌, ◌<◌, ◌≤◌, min, cond, eqb, ◌≢◌, List, [], ◌∷◌, length, get_or, drop, sym, refl, ap, ◌∙◌, arith}
-use Rattle.std.proofs.lemmas.List.{drop_more, drop_all, length-drop}
-use Rattle.std.proofs.lemmas.Bool.{eq-eqb, ne_eqb, cond-true, cond-false}
+-- The smallest quantity and who holds it first, as the iterators find them.
+use Rattle.std.proofs.Common.{◌≡◌, ℕ, min, not, eqb, List, [], ◌∷◌, length, take, fold, unwrap_or, refl, ◌∙◌, arith}
+use Rattle.std.specs.List.{prefix_len, reduce}
+use Rattle.std.proofs.lemmas.List.Folds.{length-prefix_len}
 use Rattle.cuts.specs.Stages.{smallest, ahead}
+use Rattle.cuts.proofs.Place.{by_bool}
 
-module _ (m : ℕ) (qs : List ℕ) (i : ℕ) where
-  ahead_drop : i < length qs → ahead m (drop i qs) ≡ cond (eqb (get_or qs i 0) m) 0 (suc (ahead m (drop (i + 1) qs)))
-  ahead_drop h = ap (ahead m) (drop_more qs i 0 h)
+prefix_is : (m : ℕ) (qs : List ℕ) → prefix_len (λ q. not (eqb q m)) qs ≡ ahead m qs
+prefix_is m [] = refl
+prefix_is m (q ∷ qs) = let i = prefix_is m qs in by_bool (eqb q m) (λ e. rw e refl) (λ e. rw e (omega (arith, i)))
 
-  pub ahead_more : i < length qs → get_or qs i 0 ≢ m → ahead m (drop i qs) ≡ ahead m (drop (i + 1) qs) + 1
-  ahead_more h ne = ahead_drop h ∙ cond-false (eqb (get_or qs i 0) m) 0 (suc (ahead m (drop (i + 1) qs))) (ne_eqb (get_or qs i 0) m ne) ∙ omega arith
+-- how many hold another quantity, before the first that holds m
+pub ahead_is : (m : ℕ) (qs : List ℕ) → length (take (prefix_len (λ q. not (eqb q m)) qs) qs) ≡ ahead m qs
+ahead_is m qs = length-prefix_len (λ q. not (eqb q m)) qs ∙ prefix_is m qs
 
-  pub ahead_here : i < length qs → get_or qs i 0 ≡ m → ahead m (drop i qs) ≡ 0
-  ahead_here h e = ahead_drop h ∙ cond-true (eqb (get_or qs i 0) m) 0 (suc (ahead m (drop (i + 1) qs))) (eq-eqb (get_or qs i 0) m e)
+min_with : (x y : ℕ) (qs : List ℕ) → smallest (min x y ∷ qs) ≡ min x (smallest (y ∷ qs))
+min_with x y [] = refl
+min_with x y (q ∷ qs) = omega arith
 
-  pub ahead_all : length qs ≤ i → ahead m (drop i qs) ≡ 0
-  ahead_all h = ap (ahead m) (drop_all i qs h)
+fold_is : (x : ℕ) (qs : List ℕ) → fold min x qs ≡ smallest (x ∷ qs)
+fold_is x [] = refl
+fold_is x (y ∷ qs) = fold_is (min x y) qs ∙ min_with x y qs
 
-smallest_cons : (x : ℕ) (xs : List ℕ) → 0 < length xs → smallest (x ∷ xs) ≡ min x (smallest xs)
-smallest_cons x [] h = absurd (omega arith)
-smallest_cons x (y ∷ ys) h = refl
-
--- from at on, when it is known from at on less one
-module _ (qs : List ℕ) (at : ℕ) (some : 0 < at) where
-  back : at - 1 + 1 ≡ at
-  back = omega arith
-
-  pub smallest_last : at ≡ length qs → get_or qs (at - 1) 0 ≡ smallest (drop (at - 1) qs)
-  smallest_last e = sym (ap smallest (drop_more qs (at - 1) 0 (omega arith) ∙ ap (λ l. get_or qs (at - 1) 0 ∷ l) (drop_all (at - 1 + 1) qs (omega arith))))
-
-  pub smallest_more : at < length qs → min (get_or qs (at - 1) 0) (smallest (drop at qs)) ≡ smallest (drop (at - 1) qs)
-  smallest_more h =
-      let x = get_or qs (at - 1) 0 in
-      sym (ap smallest (drop_more qs (at - 1) 0 (omega arith) ∙ ap (λ k. x ∷ drop k qs) back) ∙ smallest_cons x (drop at qs) (omega (arith, length-drop at qs)))
-
-pub smallest_none : (qs : List ℕ) → smallest (drop (length qs) qs) ≡ 0
-smallest_none qs = ap smallest (drop_all (length qs) qs (omega arith))
+-- the least of the quantities, 0 where there is none
+pub smallest_is : (qs : List ℕ) → unwrap_or (reduce min qs) 0 ≡ smallest qs
+smallest_is [] = refl
+smallest_is (q ∷ qs) = fold_is q qs

@@ -14,6 +14,10 @@ module _ {C : Type 0} (place : C → ℕ) (xs : List C) where
       let l : t < length (map place xs) = simp length-map (omega arith) in
       get_or-map (λ p. get_or ns p 0) (map place xs) t 0 0 l ∙ ap (λ p. get_or ns p 0) (place_at t x h e)
 
+  -- the same, by the place that was asked for
+  pub held_by : (ns : List ℕ) (t : ℕ) (x : C) (p : ℕ) → t < length xs → x ≡ get_or xs t x → p ≡ place x → get_or (held (map place xs) ns) t 0 ≡ get_or ns p 0
+  held_by ns t x p h e k = held_at ns t x h e ∙ ap (λ q. get_or ns q 0) (sym k)
+
 pub length-held : (ps ns : List ℕ) → length (held ps ns) ≡ length ps
 length-held ps ns = length-map ps _
 

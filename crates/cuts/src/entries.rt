@@ -1,9 +1,11 @@
+// The candidates that the entries of a book stand for.
 ghost use Rattle.std.specs.Prelude.{◌≡◌, ℕ};
-ghost use Rattle.cuts.specs.Kinds.{order_stands, block_stands, price_key};
+ghost use Rattle.cuts.specs.Kinds.{order_stands, block_stands, price_key, ranking};
 
 use crate::candidates::{BlockCandidate, OrderCandidate};
 use market::entry::Entry;
 use market::records::{Block, Order, Side};
+use std::cmp::Reverse;
 
 /// An entry that can be a candidate of a stage of cuts.
 pub trait Stands<C>: Entry {
@@ -19,8 +21,21 @@ fn price_key(side: Side, limit: i32) -> i64
     ensures { result ≡ price_key side limit }
 {
     match side {
-        Side::Sell => limit as i64,
-        Side::Buy => -(limit as i64),
+        Side::Sell => i64::from(limit),
+        Side::Buy => -i64::from(limit),
+    }
+}
+
+// What ranks an entry among those of its kind.
+fn ranking<E: Entry>(entry: &E, steps: u32, place: usize) -> BlockCandidate
+    ensures { result ≡ ranking E.kind entry.now steps place }
+{
+    BlockCandidate {
+        steps: Reverse(steps),
+        limit: price_key(entry.side(), entry.limit()),
+        stamp: entry.stamp(),
+        account: entry.account(),
+        entry: place,
     }
 }
 
@@ -28,14 +43,7 @@ impl Stands<BlockCandidate> for Block {
     ghost stands = { block_stands };
 
     fn candidate(&self, steps: u32, place: usize) -> BlockCandidate {
-        let limit = price_key(self.side, self.limit);
-        BlockCandidate {
-            steps,
-            limit,
-            stamp: self.stamp,
-            account: self.account,
-            entry: place,
-        }
+        ranking(self, steps, place)
     }
 }
 
@@ -43,17 +51,9 @@ impl Stands<OrderCandidate> for Order {
     ghost stands = { order_stands };
 
     fn candidate(&self, steps: u32, place: usize) -> OrderCandidate {
-        let limit = price_key(self.side, self.limit);
-        let rest = BlockCandidate {
-            steps,
-            limit,
-            stamp: self.stamp,
-            account: self.account,
-            entry: place,
-        };
         OrderCandidate {
             market: self.market,
-            rest,
+            rest: ranking(self, steps, place),
         }
     }
 }

@@ -7,6 +7,7 @@ pub mod laws;
 pub mod list;
 mod numbers;
 pub mod open_cuts;
+mod paper;
 pub mod rank;
 pub mod rounding;
 pub mod settled;

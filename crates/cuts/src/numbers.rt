@@ -1,11 +1,11 @@
 // The numbers of an interval, one for each entry of a kind.
 ghost use Rattle.std.specs.Prelude.{◌≡◌, ℕ, ◌*◌, ◌≤◌, length};
-ghost use Rattle.market.specs.Signed.{signed, Within};
+ghost use Rattle.market.specs.Signed.{Within};
 ghost use Rattle.cuts.specs.Numbers.{number, rounded_numbers, net};
 
-use market::entry::Entry;
+use crate::paper::Paper;
 use crate::rounding::nearest;
-use market::records::Side;
+use market::entry::Entry;
 
 fn number<E: Entry>(interval: u32, entry: &E, fill: u32) -> u32
     ensures { result ≡ number E.kind interval entry.now fill }
@@ -18,28 +18,12 @@ fn number<E: Entry>(interval: u32, entry: &E, fill: u32) -> u32
 }
 
 // Writes the rounded number of each entry.
-pub(crate) fn write_rounded<E: Entry>(
-    entries: &[E],
-    fills: &[u32],
-    interval: u32,
-    numbers: &mut [u32],
-)
-    requires fills { length fills.now ≡ length entries.now }
-    requires room { length numbers.old ≡ length entries.now }
-    ensures { numbers.new ≡ rounded_numbers E.kind interval entries.now fills.now }
+pub(crate) fn write_rounded<E: Entry>(paper: &Paper<'_, E>, interval: u32, numbers: &mut [u32])
+    requires { length numbers.old ≡ length paper.now.entries.now }
+    ensures { numbers.new ≡ rounded_numbers E.kind interval paper.now.entries.now paper.now.fills.now }
 {
-    for i in 0..entries.len() {
-        numbers[i] = number(interval, &entries[i], fills[i]);
-    }
-}
-
-fn signed(side: Side, number: u32) -> i64
-    ensures is { result ≡ signed side number }
-    ensures small { Within 4294967296 result }
-{
-    match side {
-        Side::Sell => number as i64,
-        Side::Buy => -(number as i64),
+    for (place, (entry, fill)) in paper.entries.iter().zip(paper.fills).enumerate() {
+        numbers[place] = number(interval, entry, *fill);
     }
 }
 
@@ -51,8 +35,8 @@ pub(crate) fn net<E: Entry>(entries: &[E], numbers: &[u32]) -> i64
     ensures small { Within (4294967296 * 1024) result }
 {
     let mut sum = 0;
-    for i in 0..entries.len() {
-        sum += signed(entries[i].side(), numbers[i]);
+    for (entry, number) in entries.iter().zip(numbers) {
+        sum += entry.side().signed(*number);
     }
     sum
 }

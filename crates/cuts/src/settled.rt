@@ -1,311 +1,234 @@
 // From a book, its fills, an interval and R to the settled numbers.
 ghost use Rattle.std.specs.Prelude.{◌≡◌, ℕ, ◌+◌, ◌≤◌, true, ◌&&◌, ◌++◌, length, take, drop, ℤ, if◌then◌else◌, Some, None};
 ghost use Rattle.cuts.specs.Numbers.{rounded_numbers};
-ghost use Rattle.market.specs.Kinds.{orders as orders_kind, blocks as blocks_kind};
+ghost use Rattle.market.specs.Kinds.{orders, blocks};
 ghost use Rattle.cuts.specs.Stages.{last_step, stage_cut};
 ghost use Rattle.cuts.specs.SettledLaws.{Settles};
 ghost use Rattle.cuts.specs.Settled.{ranked_places, stage_of, two_stages, balance, gap_of, orders_cut, blocks_cut, settled_numbers, remainder_of, sizes_fit, lists_fit, Sizes};
 
-use crate::candidates::{BlockCandidate, OrderCandidate};
+use crate::candidates::Lists;
 use crate::entries::Stands;
 use crate::gather::{Filled, Stage, gather};
 use crate::numbers::{net, write_rounded};
+use crate::paper::Paper;
 use crate::rank::Candidate;
 use crate::stage::run_turns;
-use market::records::{Block, Order};
-
-const MOST_ORDERS: usize = 1024;
-
-const MOST_BLOCKS: usize = 64;
+use market::bounds::{MOST_BLOCKS, MOST_ORDERS};
+use market::records::{Block, Book, Fills, Order};
 
 // One stage: its candidates in rank order, then their turns.
 fn run_stage<C: Candidate + Copy, E: Stands<C>>(
-    entries: &[E],
-    fills: &[u32],
+    paper: &Paper<'_, E>,
     stage: Stage,
     list: &mut [C],
     numbers: &mut [u32],
     gap: u64,
 ) -> u64
-    requires fills { length fills.now ≡ length entries.now }
-    requires room { length entries.now ≤ length list.old }
-    ensures numbers { numbers.new ≡ (stage_cut last_step (ranked_places E.kind E.stands C.before C.place entries.now fills.now stage) numbers.old gap).numbers }
-    ensures left { result ≡ (stage_cut last_step (ranked_places E.kind E.stands C.before C.place entries.now fills.now stage) numbers.old gap).left }
+    requires { length paper.now.entries.now ≤ length list.old }
+    ensures numbers { numbers.new ≡ (stage_cut last_step (ranked_places E.kind E.stands C.before C.place paper.now.entries.now paper.now.fills.now stage) numbers.old gap).numbers }
+    ensures left { result ≡ (stage_cut last_step (ranked_places E.kind E.stands C.before C.place paper.now.entries.now paper.now.fills.now stage) numbers.old gap).left }
 {
-    let count = gather(entries, fills, stage, list);
-    run_turns(&list[0..count], numbers, gap)
+    let count = gather(paper, stage, list);
+    run_turns(&list[..count], numbers, gap)
 }
 
 // The two stages of a kind of entry.
 fn cut_kind<C: Candidate + Copy, E: Stands<C>>(
-    entries: &[E],
-    fills: &[u32],
+    paper: &Paper<'_, E>,
     interval: u32,
     gap: i64,
     left: u64,
     list: &mut [C],
     numbers: &mut [u32],
 ) -> u64
-    requires fills { length fills.now ≡ length entries.now }
-    requires room { length entries.now ≤ length list.old }
-    ensures numbers { numbers.new ≡ (two_stages last_step (λ f. ranked_places E.kind E.stands C.before C.place entries.now fills.now (stage_of interval gap f)) numbers.old left).numbers }
-    ensures left { result ≡ (two_stages last_step (λ f. ranked_places E.kind E.stands C.before C.place entries.now fills.now (stage_of interval gap f)) numbers.old left).left }
+    requires { length paper.now.entries.now ≤ length list.old }
+    ensures numbers { numbers.new ≡ (two_stages last_step (λ f. ranked_places E.kind E.stands C.before C.place paper.now.entries.now paper.now.fills.now (stage_of interval gap f)) numbers.old left).numbers }
+    ensures left { result ≡ (two_stages last_step (λ f. ranked_places E.kind E.stands C.before C.place paper.now.entries.now paper.now.fills.now (stage_of interval gap f)) numbers.old left).left }
 {
-    let left = run_stage(
-        entries,
-        fills,
-        Stage {
-            interval,
-            gap,
-            filled: Filled::Partly,
-        },
-        list,
-        numbers,
-        left,
-    );
-    run_stage(
-        entries,
-        fills,
-        Stage {
-            interval,
-            gap,
-            filled: Filled::Full,
-        },
-        list,
-        numbers,
-        left,
-    )
+    let partly = Stage {
+        interval,
+        gap,
+        filled: Filled::Partly,
+    };
+    let full = Stage {
+        filled: Filled::Full,
+        ..partly
+    };
+    let left = run_stage(paper, partly, list, numbers, left);
+    run_stage(paper, full, list, numbers, left)
 }
 
-fn sizes_fit(
-    orders: usize,
-    order_fills: usize,
-    blocks: usize,
-    block_fills: usize,
-    numbers: usize,
-) -> bool
-    ensures { result ≡ sizes_fit orders order_fills blocks block_fills numbers }
+fn sizes_fit(book: Book<'_>, fills: Fills<'_>, numbers: usize) -> bool
+    ensures { result ≡ sizes_fit (length book.entry.orders.now) (length fills.entry.orders.now) (length book.entry.blocks.now) (length fills.entry.blocks.now) numbers }
 {
-    if orders > MOST_ORDERS || blocks > MOST_BLOCKS {
-        return false;
+    let orders = book.orders.len();
+    let blocks = book.blocks.len();
+    orders <= MOST_ORDERS
+        && blocks <= MOST_BLOCKS
+        && fills.orders.len() == orders
+        && fills.blocks.len() == blocks
+        && orders + blocks <= numbers
+}
+
+fn lists_fit(book: Book<'_>, order_list: usize, block_list: usize) -> bool
+    ensures { result ≡ lists_fit (length book.entry.orders.now) order_list (length book.entry.blocks.now) block_list }
+{
+    book.orders.len() <= order_list && book.blocks.len() <= block_list
+}
+
+// An interval of a book, R, and a paper that fits the book.
+#[derive(Drop)]
+struct Rounding<'a> {
+    book: Book<'a>,
+    fills: Fills<'a>,
+    interval: u32,
+    rounded: i32,
+    ghost fits: { Sizes (length book.orders.now) (length fills.orders.now) (length book.blocks.now) (length fills.blocks.now) (length book.orders.now + length book.blocks.now) },
+}
+
+impl Rounding<'_> {
+    fn orders(&self) -> Paper<'_, Order>
+        ensures entries { result.entries.now ≡ self.now.book.orders.now }
+        ensures fills { result.fills.now ≡ self.now.fills.orders.now }
+    {
+        Paper {
+            entries: self.book.orders,
+            fills: self.fills.orders,
+        }
     }
-    order_fills == orders && block_fills == blocks && orders + blocks <= numbers
-}
 
-// Writes the rounded numbers, those of the orders first.
-fn write_all(
-    orders: &[Order],
-    order_fills: &[u32],
-    blocks: &[Block],
-    block_fills: &[u32],
-    interval: u32,
-    numbers: &mut [u32],
-)
-    requires { Sizes (length orders.now) (length order_fills.now) (length blocks.now) (length block_fills.now) (length numbers.old) }
-    ensures { numbers.new ≡ rounded_numbers orders_kind interval orders.now order_fills.now ++ (rounded_numbers blocks_kind interval blocks.now block_fills.now ++ drop (length orders.now + length blocks.now) numbers.old) }
-{
-    let count = orders.len();
-    write_rounded(orders, order_fills, interval, &mut numbers[0..count]);
-    write_rounded(
-        blocks,
-        block_fills,
-        interval,
-        &mut numbers[count..count + blocks.len()],
-    );
-}
+    fn blocks(&self) -> Paper<'_, Block>
+        ensures entries { result.entries.now ≡ self.now.book.blocks.now }
+        ensures fills { result.fills.now ≡ self.now.fills.blocks.now }
+    {
+        Paper {
+            entries: self.book.blocks,
+            fills: self.fills.blocks,
+        }
+    }
 
-// Sells less buys less R.
-fn balance(orders: &[Order], blocks: &[Block], numbers: &[u32], rounded: i32) -> i64
-    requires few { (length orders.now ≤ 1024) × (length blocks.now ≤ 64) }
-    requires room { length orders.now + length blocks.now ≤ length numbers.now }
-    ensures { result ≡ balance orders.now blocks.now (take (length orders.now) numbers.now) (take (length blocks.now) (drop (length orders.now) numbers.now)) rounded }
-{
-    let count = orders.len();
-    net(orders, &numbers[0..count]) + net(blocks, &numbers[count..count + blocks.len()])
-        - rounded as i64
-}
+    // Writes the rounded numbers, those of the orders first.
+    fn write(&self, numbers: &mut [u32])
+        requires { length self.now.book.orders.now + length self.now.book.blocks.now ≤ length numbers.old }
+        ensures { numbers.new ≡ rounded_numbers orders self.now.interval self.now.book.orders.now self.now.fills.orders.now ++ (rounded_numbers blocks self.now.interval self.now.book.blocks.now self.now.fills.blocks.now ++ drop (length self.now.book.orders.now + length self.now.book.blocks.now) numbers.old) }
+    {
+        let count = self.book.orders.len();
+        let end = count + self.book.blocks.len();
+        write_rounded(&self.orders(), self.interval, &mut numbers[..count]);
+        write_rounded(&self.blocks(), self.interval, &mut numbers[count..end]);
+    }
 
-// Cuts the rounded numbers: those of the orders, then with what is left of the gap those of the blocks.
-fn cut_all(
-    orders: &[Order],
-    order_fills: &[u32],
-    blocks: &[Block],
-    block_fills: &[u32],
-    interval: u32,
-    gap: i64,
-    order_list: &mut [OrderCandidate],
-    block_list: &mut [BlockCandidate],
-    numbers: &mut [u32],
-)
-    requires sizes { Sizes (length orders.now) (length order_fills.now) (length blocks.now) (length block_fills.now) (length numbers.old) }
-    requires lists { (length orders.now ≤ length order_list.old) × (length blocks.now ≤ length block_list.old) }
-    requires orders { take (length orders.now) numbers.old ≡ rounded_numbers orders_kind interval orders.now order_fills.now }
-    requires blocks { take (length blocks.now) (drop (length orders.now) numbers.old) ≡ rounded_numbers blocks_kind interval blocks.now block_fills.now }
-    ensures { numbers.new ≡ (orders_cut orders.now order_fills.now interval gap).numbers ++ ((blocks_cut blocks.now block_fills.now interval gap (orders_cut orders.now order_fills.now interval gap).left).numbers ++ drop (length orders.now + length blocks.now) numbers.old) }
-{
-    let count = orders.len();
-    let left = cut_kind(
-        orders,
-        order_fills,
-        interval,
-        gap,
-        gap.unsigned_abs(),
-        order_list,
-        &mut numbers[0..count],
-    );
-    let _ = cut_kind(
-        blocks,
-        block_fills,
-        interval,
-        gap,
-        left,
-        block_list,
-        &mut numbers[count..count + blocks.len()],
-    );
-}
+    // Sells less buys less R.
+    fn balance(&self, numbers: &[u32]) -> i64
+        requires { length self.now.book.orders.now + length self.now.book.blocks.now ≤ length numbers.now }
+        ensures { result ≡ balance self.now.book.orders.now self.now.book.blocks.now (take (length self.now.book.orders.now) numbers.now) (take (length self.now.book.blocks.now) (drop (length self.now.book.orders.now) numbers.now)) self.now.rounded }
+    {
+        let count = self.book.orders.len();
+        let end = count + self.book.blocks.len();
+        net(self.book.orders, &numbers[..count]) + net(self.book.blocks, &numbers[count..end])
+            - i64::from(self.rounded)
+    }
 
-// The rounded numbers, and the gap.
-fn round_all(
-    orders: &[Order],
-    order_fills: &[u32],
-    blocks: &[Block],
-    block_fills: &[u32],
-    interval: u32,
-    rounded: i32,
-    numbers: &mut [u32],
-) -> i64
-    requires { Sizes (length orders.now) (length order_fills.now) (length blocks.now) (length block_fills.now) (length numbers.old) }
-    ensures gap { result ≡ gap_of orders.now order_fills.now blocks.now block_fills.now interval rounded }
-    ensures numbers { numbers.new ≡ rounded_numbers orders_kind interval orders.now order_fills.now ++ (rounded_numbers blocks_kind interval blocks.now block_fills.now ++ drop (length orders.now + length blocks.now) numbers.old) }
-{
-    write_all(orders, order_fills, blocks, block_fills, interval, numbers);
-    balance(orders, blocks, numbers, rounded)
-}
+    // Cuts the rounded numbers: those of the orders, then with what is left of the gap those of the blocks.
+    fn cut(&self, gap: i64, lists: &mut Lists<'_>, numbers: &mut [u32])
+        requires room { length self.now.book.orders.now + length self.now.book.blocks.now ≤ length numbers.old }
+        requires lists { (length self.now.book.orders.now ≤ length lists.old.orders.now) × (length self.now.book.blocks.now ≤ length lists.old.blocks.now) }
+        requires orders { take (length self.now.book.orders.now) numbers.old ≡ rounded_numbers orders self.now.interval self.now.book.orders.now self.now.fills.orders.now }
+        requires blocks { take (length self.now.book.blocks.now) (drop (length self.now.book.orders.now) numbers.old) ≡ rounded_numbers blocks self.now.interval self.now.book.blocks.now self.now.fills.blocks.now }
+        ensures { numbers.new ≡ (orders_cut self.now.book.orders.now self.now.fills.orders.now self.now.interval gap).numbers ++ ((blocks_cut self.now.book.blocks.now self.now.fills.blocks.now self.now.interval gap (orders_cut self.now.book.orders.now self.now.fills.orders.now self.now.interval gap).left).numbers ++ drop (length self.now.book.orders.now + length self.now.book.blocks.now) numbers.old) }
+    {
+        let count = self.book.orders.len();
+        let end = count + self.book.blocks.len();
+        let left = cut_kind(
+            &self.orders(),
+            self.interval,
+            gap,
+            gap.unsigned_abs(),
+            lists.orders,
+            &mut numbers[..count],
+        );
+        let _ = cut_kind(
+            &self.blocks(),
+            self.interval,
+            gap,
+            left,
+            lists.blocks,
+            &mut numbers[count..end],
+        );
+    }
 
-// The settled numbers, and the remainder.
-fn settle_all(
-    orders: &[Order],
-    order_fills: &[u32],
-    blocks: &[Block],
-    block_fills: &[u32],
-    interval: u32,
-    rounded: i32,
-    order_list: &mut [OrderCandidate],
-    block_list: &mut [BlockCandidate],
-    numbers: &mut [u32],
-) -> i64
-    requires sizes { Sizes (length orders.now) (length order_fills.now) (length blocks.now) (length block_fills.now) (length numbers.old) }
-    requires lists { (length orders.now ≤ length order_list.old) × (length blocks.now ≤ length block_list.old) }
-    ensures remainder { result ≡ remainder_of orders.now order_fills.now blocks.now block_fills.now interval rounded }
-    ensures numbers { numbers.new ≡ settled_numbers orders.now order_fills.now blocks.now block_fills.now interval rounded ++ drop (length orders.now + length blocks.now) numbers.old }
-{
-    let gap = round_all(
-        orders,
-        order_fills,
-        blocks,
-        block_fills,
-        interval,
-        rounded,
-        numbers,
-    );
-    cut_all(
-        orders,
-        order_fills,
-        blocks,
-        block_fills,
-        interval,
-        gap,
-        order_list,
-        block_list,
-        numbers,
-    );
-    balance(orders, blocks, numbers, rounded)
+    // The rounded numbers, and the gap.
+    fn round(&self, numbers: &mut [u32]) -> i64
+        requires { length self.now.book.orders.now + length self.now.book.blocks.now ≤ length numbers.old }
+        ensures gap { result ≡ gap_of self.now.book.orders.now self.now.fills.orders.now self.now.book.blocks.now self.now.fills.blocks.now self.now.interval self.now.rounded }
+        ensures numbers { numbers.new ≡ rounded_numbers orders self.now.interval self.now.book.orders.now self.now.fills.orders.now ++ (rounded_numbers blocks self.now.interval self.now.book.blocks.now self.now.fills.blocks.now ++ drop (length self.now.book.orders.now + length self.now.book.blocks.now) numbers.old) }
+    {
+        self.write(numbers);
+        self.balance(numbers)
+    }
+
+    // The settled numbers, and the remainder.
+    fn settle(&self, lists: &mut Lists<'_>, numbers: &mut [u32]) -> i64
+        requires room { length self.now.book.orders.now + length self.now.book.blocks.now ≤ length numbers.old }
+        requires lists { (length self.now.book.orders.now ≤ length lists.old.orders.now) × (length self.now.book.blocks.now ≤ length lists.old.blocks.now) }
+        ensures remainder { result ≡ remainder_of self.now.book.orders.now self.now.fills.orders.now self.now.book.blocks.now self.now.fills.blocks.now self.now.interval self.now.rounded }
+        ensures numbers { numbers.new ≡ settled_numbers self.now.book.orders.now self.now.fills.orders.now self.now.book.blocks.now self.now.fills.blocks.now self.now.interval self.now.rounded ++ drop (length self.now.book.orders.now + length self.now.book.blocks.now) numbers.old }
+    {
+        let gap = self.round(numbers);
+        self.cut(gap, lists, numbers);
+        self.balance(numbers)
+    }
 }
 
 /// Writes the rounded number of each order, then of each block, 0 for those that are not of the interval, and answers the gap:
 /// sells less buys less R. `None`, and nothing written, where the slices do not fit one another.
 pub fn rounded_numbers(
-    orders: &[Order],
-    order_fills: &[u32],
-    blocks: &[Block],
-    block_fills: &[u32],
+    book: Book<'_>,
+    fills: Fills<'_>,
     interval: u32,
     rounded: i32,
     numbers: &mut [u32],
 ) -> Option<i64>
-    ensures gap { result ≡ (if sizes_fit (length orders.now) (length order_fills.now) (length blocks.now) (length block_fills.now) (length numbers.old) then Some (gap_of orders.now order_fills.now blocks.now block_fills.now interval rounded) else None) }
-    ensures numbers { numbers.new ≡ (if sizes_fit (length orders.now) (length order_fills.now) (length blocks.now) (length block_fills.now) (length numbers.old) then rounded_numbers orders_kind interval orders.now order_fills.now ++ (rounded_numbers blocks_kind interval blocks.now block_fills.now ++ drop (length orders.now + length blocks.now) numbers.old) else numbers.old) }
+    ensures gap { result ≡ (if sizes_fit (length book.entry.orders.now) (length fills.entry.orders.now) (length book.entry.blocks.now) (length fills.entry.blocks.now) (length numbers.old) then Some (gap_of book.entry.orders.now fills.entry.orders.now book.entry.blocks.now fills.entry.blocks.now interval rounded) else None) }
+    ensures numbers { numbers.new ≡ (if sizes_fit (length book.entry.orders.now) (length fills.entry.orders.now) (length book.entry.blocks.now) (length fills.entry.blocks.now) (length numbers.old) then rounded_numbers orders interval book.entry.orders.now fills.entry.orders.now ++ (rounded_numbers blocks interval book.entry.blocks.now fills.entry.blocks.now ++ drop (length book.entry.orders.now + length book.entry.blocks.now) numbers.old) else numbers.old) }
 {
-    if !sizes_fit(
-        orders.len(),
-        order_fills.len(),
-        blocks.len(),
-        block_fills.len(),
-        numbers.len(),
-    ) {
+    if !sizes_fit(book, fills, numbers.len()) {
         return None;
     }
-    Some(round_all(
-        orders,
-        order_fills,
-        blocks,
-        block_fills,
+    let rounding = Rounding {
+        book,
+        fills,
         interval,
         rounded,
-        numbers,
-    ))
-}
-
-fn lists_fit(orders: usize, order_list: usize, blocks: usize, block_list: usize) -> bool
-    ensures { result ≡ lists_fit orders order_list blocks block_list }
-{
-    orders <= order_list && blocks <= block_list
+    };
+    Some(rounding.round(numbers))
 }
 
 /// Writes the settled number of each order, then of each block, 0 for those that are not of the interval, and answers the
 /// remainder: settled sells less settled buys less R. `None`, and nothing written, where the slices do not fit one another.
 pub fn settled_numbers(
-    orders: &[Order],
-    order_fills: &[u32],
-    blocks: &[Block],
-    block_fills: &[u32],
+    book: Book<'_>,
+    fills: Fills<'_>,
     interval: u32,
     rounded: i32,
-    order_list: &mut [OrderCandidate],
-    block_list: &mut [BlockCandidate],
+    lists: &mut Lists<'_>,
     numbers: &mut [u32],
 ) -> Option<i64>
-    ensures remainder { result ≡ (if sizes_fit (length orders.now) (length order_fills.now) (length blocks.now) (length block_fills.now) (length numbers.old) && lists_fit (length orders.now) (length order_list.old) (length blocks.now) (length block_list.old) then Some (remainder_of orders.now order_fills.now blocks.now block_fills.now interval rounded) else None) }
-    ensures numbers { numbers.new ≡ (if sizes_fit (length orders.now) (length order_fills.now) (length blocks.now) (length block_fills.now) (length numbers.old) && lists_fit (length orders.now) (length order_list.old) (length blocks.now) (length block_list.old) then settled_numbers orders.now order_fills.now blocks.now block_fills.now interval rounded ++ drop (length orders.now + length blocks.now) numbers.old else numbers.old) }
-    ensures refused { result ≡ None → (order_list.new ≡ order_list.old) × (block_list.new ≡ block_list.old) }
-    ensures laws { Settles orders.now order_fills.now blocks.now block_fills.now interval rounded }
+    ensures remainder { result ≡ (if sizes_fit (length book.entry.orders.now) (length fills.entry.orders.now) (length book.entry.blocks.now) (length fills.entry.blocks.now) (length numbers.old) && lists_fit (length book.entry.orders.now) (length lists.old.orders.now) (length book.entry.blocks.now) (length lists.old.blocks.now) then Some (remainder_of book.entry.orders.now fills.entry.orders.now book.entry.blocks.now fills.entry.blocks.now interval rounded) else None) }
+    ensures numbers { numbers.new ≡ (if sizes_fit (length book.entry.orders.now) (length fills.entry.orders.now) (length book.entry.blocks.now) (length fills.entry.blocks.now) (length numbers.old) && lists_fit (length book.entry.orders.now) (length lists.old.orders.now) (length book.entry.blocks.now) (length lists.old.blocks.now) then settled_numbers book.entry.orders.now fills.entry.orders.now book.entry.blocks.now fills.entry.blocks.now interval rounded ++ drop (length book.entry.orders.now + length book.entry.blocks.now) numbers.old else numbers.old) }
+    ensures refused { result ≡ None → (lists.new.orders.now ≡ lists.old.orders.now) × (lists.new.blocks.now ≡ lists.old.blocks.now) }
+    ensures laws { Settles book.entry.orders.now fills.entry.orders.now book.entry.blocks.now fills.entry.blocks.now interval rounded }
 {
-    if !sizes_fit(
-        orders.len(),
-        order_fills.len(),
-        blocks.len(),
-        block_fills.len(),
-        numbers.len(),
-    ) {
+    if !sizes_fit(book, fills, numbers.len())
+        || !lists_fit(book, lists.orders.len(), lists.blocks.len())
+    {
         return None;
     }
-    if !lists_fit(
-        orders.len(),
-        order_list.len(),
-        blocks.len(),
-        block_list.len(),
-    ) {
-        return None;
-    }
-    Some(settle_all(
-        orders,
-        order_fills,
-        blocks,
-        block_fills,
+    let rounding = Rounding {
+        book,
+        fills,
         interval,
         rounded,
-        order_list,
-        block_list,
-        numbers,
-    ))
+    };
+    Some(rounding.settle(lists, numbers))
 }

@@ -13,15 +13,16 @@ fn take_turn<C: Candidate>(list: &[C], numbers: &mut [u32], turn: usize) -> bool
     ensures loses { result ≡ nat_lt 1 (slice_index (held (map C.place list.now) numbers.old) turn) }
     ensures numbers { numbers.new ≡ (if result then one_less numbers.old (slice_index (map C.place list.now) turn) else numbers.old) }
 {
-    if turn >= list.len() {
+    let Some(candidate) = list.get(turn) else {
         return false;
-    }
-    let place = list[turn].place();
-    if place < numbers.len() && numbers[place] > LAST {
-        numbers[place] -= 1;
-        true
-    } else {
-        false
+    };
+    let place = candidate.place();
+    match numbers.get(place) {
+        Some(number) if *number > LAST => {
+            numbers[place] -= 1;
+            true
+        }
+        _ => false,
     }
 }
 

@@ -3,26 +3,14 @@
 
 #[cfg(test)]
 mod tests {
-    use cuts::candidates::{BlockCandidate, OrderCandidate};
+    use cuts::candidates::{BlockCandidate, Lists, OrderCandidate};
     use cuts::list::insert;
     use cuts::open_cuts::open_cuts;
     use cuts::rounding::nearest;
     use cuts::settled::{rounded_numbers, settled_numbers};
-    use market::records::{Block, Market, Order, Side};
+    use market::records::{Block, Book, Fills, Market, Order, Side};
+    use std::cmp::Reverse;
     use std::test::Fail;
-
-    const NO_BLOCK: BlockCandidate = BlockCandidate {
-        steps: 0,
-        limit: 0,
-        stamp: 0,
-        account: 0,
-        entry: 0,
-    };
-
-    const NO_ORDER: OrderCandidate = OrderCandidate {
-        market: Market::Spot,
-        rest: NO_BLOCK,
-    };
 
     const SELL: Order = Order {
         side: Side::Sell,
@@ -66,24 +54,23 @@ mod tests {
         settled: &[u32],
         remainder: i64,
     ) -> Result<(), Fail> {
-        let mut order_list = [NO_ORDER; 16];
-        let mut block_list = [NO_BLOCK; 16];
+        let mut order_list = [OrderCandidate::BLANK; 16];
+        let mut block_list = [BlockCandidate::BLANK; 16];
         let mut numbers = [7; 16];
-        let found = rounded_numbers(orders, fills, blocks, block_fills, 1, rounded, &mut numbers);
+        let book = Book { orders, blocks };
+        let fills = Fills {
+            orders: fills,
+            blocks: block_fills,
+        };
+        let found = rounded_numbers(book, fills, 1, rounded, &mut numbers);
         if found != Some(gap) {
             return Err(Fail::new("the gap"));
         }
-        let answer = settled_numbers(
-            orders,
-            fills,
-            blocks,
-            block_fills,
-            1,
-            rounded,
-            &mut order_list,
-            &mut block_list,
-            &mut numbers,
-        );
+        let mut lists = Lists {
+            orders: &mut order_list,
+            blocks: &mut block_list,
+        };
+        let answer = settled_numbers(book, fills, 1, rounded, &mut lists, &mut numbers);
         if answer != Some(remainder) {
             return Err(Fail::new("the remainder"));
         }
@@ -309,47 +296,47 @@ mod tests {
 
     #[test]
     fn refuses_slices_that_do_not_fit(rt: HostRuntime) {
-        let mut order_list = [NO_ORDER; 1];
-        let mut block_list = [NO_BLOCK; 1];
+        let mut order_list = [OrderCandidate::BLANK; 1];
+        let mut block_list = [BlockCandidate::BLANK; 1];
         let mut numbers = [7; 2];
+        let mut lists = Lists {
+            orders: &mut order_list,
+            blocks: &mut block_list,
+        };
+        let sell = Book {
+            orders: &[SELL],
+            blocks: &[],
+        };
+        let none = Fills {
+            orders: &[],
+            blocks: &[],
+        };
         assert_eq!(rt;
-            settled_numbers(
-                &[SELL],
-                &[],
-                &[],
-                &[],
-                1,
-                0,
-                &mut order_list,
-                &mut block_list,
-                &mut numbers,
-            ),
+            settled_numbers(sell, none, 1, 0, &mut lists, &mut numbers),
             None
         );
+        let sells = Book {
+            orders: &[SELL, SELL],
+            blocks: &[],
+        };
+        let two = Fills {
+            orders: &[100, 100],
+            blocks: &[],
+        };
         assert_eq!(rt;
-            settled_numbers(
-                &[SELL, SELL],
-                &[100, 100],
-                &[],
-                &[],
-                1,
-                0,
-                &mut order_list,
-                &mut block_list,
-                &mut numbers,
-            ),
+            settled_numbers(sells, two, 1, 0, &mut lists, &mut numbers),
             None
         );
+        let with_block = Book {
+            orders: &[SELL, SELL],
+            blocks: &[BLOCK],
+        };
+        let three = Fills {
+            orders: &[100, 100],
+            blocks: &[100],
+        };
         assert_eq!(rt;
-            rounded_numbers(
-                &[SELL, SELL],
-                &[100, 100],
-                &[BLOCK],
-                &[100],
-                1,
-                0,
-                &mut numbers,
-            ),
+            rounded_numbers(with_block, three, 1, 0, &mut numbers),
             None
         );
         assert_eq!(rt; numbers[0], 7);
@@ -359,20 +346,20 @@ mod tests {
     #[test]
     fn inserts_in_rank(rt: HostRuntime) {
         let small = BlockCandidate {
-            steps: 2,
-            ..NO_BLOCK
+            steps: Reverse(2),
+            ..BlockCandidate::BLANK
         };
         let large = BlockCandidate {
-            steps: 9,
+            steps: Reverse(9),
             entry: 1,
-            ..NO_BLOCK
+            ..BlockCandidate::BLANK
         };
         let second = BlockCandidate {
-            steps: 2,
+            steps: Reverse(2),
             entry: 2,
-            ..NO_BLOCK
+            ..BlockCandidate::BLANK
         };
-        let mut list = [NO_BLOCK; 3];
+        let mut list = [BlockCandidate::BLANK; 3];
         assert!(rt; insert(&mut list, 0, second));
         assert!(rt; insert(&mut list, 1, large));
         assert!(rt; insert(&mut list, 2, small));
@@ -402,20 +389,22 @@ mod tests {
         }; 1024];
         fall(&mut orders);
         let fills = [1_000_000; 1024];
-        let mut order_list = [NO_ORDER; 1024];
+        let mut order_list = [OrderCandidate::BLANK; 1024];
         let mut numbers = [0; 1024];
+        let book = Book {
+            orders: &orders,
+            blocks: &[],
+        };
+        let fills = Fills {
+            orders: &fills,
+            blocks: &[],
+        };
+        let mut lists = Lists {
+            orders: &mut order_list,
+            blocks: &mut [],
+        };
         assert_eq!(rt;
-            settled_numbers(
-                &orders,
-                &fills,
-                &[],
-                &[],
-                1,
-                0,
-                &mut order_list,
-                &mut [],
-                &mut numbers,
-            ),
+            settled_numbers(book, fills, 1, 0, &mut lists, &mut numbers),
             Some(1024)
         );
         for number in numbers {

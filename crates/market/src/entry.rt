@@ -27,6 +27,10 @@ pub trait Entry {
     fn limit(&self) -> i32
         ensures { result ≡ kind.limit self.now };
 
+    /// When it was entered, in seconds.
+    fn stamp(&self) -> i32
+        ensures { result ≡ kind.stamp self.now };
+
     fn account(&self) -> i32
         ensures { result ≡ kind.account self.now };
 

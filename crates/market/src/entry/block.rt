@@ -28,6 +28,10 @@ impl Entry for Block {
         self.limit
     }
 
+    fn stamp(&self) -> i32 {
+        self.stamp
+    }
+
     fn account(&self) -> i32 {
         self.account
     }

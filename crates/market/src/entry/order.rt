@@ -25,6 +25,10 @@ impl Entry for Order {
         self.limit
     }
 
+    fn stamp(&self) -> i32 {
+        self.stamp
+    }
+
     fn account(&self) -> i32 {
         self.account
     }

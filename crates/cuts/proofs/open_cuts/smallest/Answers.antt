@@ -1,17 +1,12 @@
-use Rattle.std.proofs.Common.{◌-◌, min, get_or, sym, ap, ◌∙◌, arith}
-use Rattle.cuts.proofs.Smallest.{smallest_last, smallest_more, smallest_none}
+use Rattle.std.proofs.Common.{ap, ◌∙◌, sym, unwrap_or}
+use Rattle.std.proofs.lemmas.Iterator.{YieldsList-from_slice}
+use Rattle.std.proofs.lemmas.Iterator.Consumers.{min_from_yields_List, YieldsList-at, YieldsList-from_copied}
+use Rattle.std.proofs.lemmas.Iterator.Adapters.{option_map_id}
+use Rattle.cuts.proofs.Smallest.{smallest_is}
 use Rattle.cuts.proofs.open_cuts.smallest.Goals as goal
 
-pub loop-at-init : goal.loop-at-init
-loop-at-init c = (sym (smallest_none c.args.held.now), omega arith)
-
-pub loop-at-preserved-then-at-held : goal.loop-at-preserved-then-at-held
-loop-at-preserved-then-at-held c = (smallest_last c.args.held.now c.loop-at.at c.loop-at-test.true (omega arith), omega arith)
-
-pub loop-at-preserved : goal.loop-at-preserved
-loop-at-preserved c =
+pub returns : goal.returns
+returns c =
     let qs = c.args.held.now in
-    let at = c.loop-at.at in (
-      c.min-low.ensures ∙ ap (min (get_or qs (at - 1) 0)) c.loop-at.invariant.0 ∙ smallest_more qs at c.loop-at-test.true (omega arith),
-      omega arith,
-    )
+    let m = min_from_yields_List c.copied.result c.min.result c.min.ensures.ran (YieldsList-from_copied (YieldsList-at c.copied.ensures.source (YieldsList-from_slice qs cc))) in
+    c.unwrap_or.ensures ∙ ap (λ o. unwrap_or o 0) (sym (option_map_id _) ∙ m) ∙ smallest_is qs
