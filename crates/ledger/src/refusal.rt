@@ -2,16 +2,20 @@
 ghost use Rattle.std.specs.Prelude.{◌≡◌};
 ghost use Rattle.ledger.specs.Refusals.{number_of, place_of};
 
+use thiserror::Error;
+
 const NOT_OPEN: u32 = 20;
 
 const OUT_OF_BOUNDS: u32 = 21;
 
 /// Why a posting is refused, with the account that it was for.
-#[derive(Clone, Copy, PartialEq, Eq, Debug)]
+#[derive(Clone, Copy, PartialEq, Eq, Debug, Error)]
 pub enum PostRefused {
     /// The ledger has no such account.
+    #[error("{} at account {account}: the account is not open", self.number())]
     NotOpen { account: u32 },
     /// The new balance would be outside the account's bounds.
+    #[error("{} at account {account}: the balance would be out of bounds", self.number())]
     OutOfBounds { account: u32 },
 }
 
