@@ -1,19 +1,27 @@
--- One turn of the loop that adds up the open worths.
-use Rattle.std.proofs.Common.{◌≡◌, ℕ, ◌+◌, ◌<◌, ◌≤◌, length, get_or, drop, pos, ◌+ℤ◌, ap, ◌∙◌, arith}
-use Rattle.std.proofs.lemmas.List.{drop_more, drop_all, get_or-take, length-take-le}
+-- What is open of a record, and one turn of the loop that adds it up.
+use Rattle.std.proofs.Common.{◌≡◌, ℕ, ◌+◌, ◌<◌, ◌≤◌, cond, ◌||◌, ◌⊎◌, List, length, get_or, drop, ℤ, pos, ◌+ℤ◌, sym, ap, ◌∙◌, ⊎_elim, arith}
+use Rattle.std.proofs.lemmas.List.{at_drop_more, length-take-le}
 use Rattle.market.specs.declared.records.Interval.{Interval}
+use Rattle.market.specs.declared.records.Mark.{Mark}
+use Rattle.market.specs.declared.records.Mark.TheVariants.{Out, Noted}
 use Rattle.market.specs.Blank.{fresh}
+use Rattle.entries.specs.Amounts.{worth}
 use Rattle.engine.specs.declared.day.Day.{Day}
-use Rattle.engine.specs.Days.{records}
+use Rattle.engine.specs.Days.{records, conditions_in}
+use Rattle.engine.specs.Marks.{is_out, is_noted}
 use Rattle.engine.specs.Booking.{open_part, open_sum}
 
-pub count-records : (d : Day) → length (records d) ≡ d.count
-count-records d = length-take-le d.count d.intervals (let most = d.sound.2 in let all = d.sound.3 in omega arith)
+pub open_is : (minutes : ℤ) (x : Interval) (y : ℤ) → (x.mark ≡ Out) ⊎ (x.mark ≡ Noted) → y ≡ worth (conditions_in minutes x) x.remainder → y ≡ open_part minutes x
+open_is minutes x y marked e =
+    let part = λ (m : Mark). cond (is_out m || is_noted m) (worth (conditions_in minutes x) x.remainder) (pos 0) in
+    e ∙ ⊎_elim (λ out. ap part (sym out)) (λ noted. ap part (sym noted)) marked
 
-pub open_more : (d : Day) (i : ℕ) → i < d.count → open_sum d.minutes (drop i (records d)) ≡ open_part d.minutes (get_or d.intervals i fresh) +ℤ open_sum d.minutes (drop (i + 1) (records d))
-open_more d i h =
-    ap (open_sum d.minutes) (drop_more (records d) i fresh (let n = count-records d in omega arith))
-    ∙ ap (λ (x : Interval). open_part d.minutes x +ℤ open_sum d.minutes (drop (i + 1) (records d))) (get_or-take d.count d.intervals i fresh h)
+pub few_records : (d : Day) → length (records d) ≤ 100
+few_records d =
+    let most = d.sound.2 in
+    let all = d.sound.3 in
+    let n = length-take-le d.count d.intervals (omega arith) in
+    omega arith
 
-pub open_all : (d : Day) (i : ℕ) → d.count ≤ i → open_sum d.minutes (drop i (records d)) ≡ pos 0
-open_all d i h = ap (open_sum d.minutes) (drop_all i (records d) (let n = count-records d in omega arith))
+pub open_more : (minutes : ℤ) (xs : List Interval) (i : ℕ) → i < length xs → open_sum minutes (drop i xs) ≡ open_part minutes (get_or xs i fresh) +ℤ open_sum minutes (drop (i + 1) xs)
+open_more minutes xs i h = at_drop_more (open_sum minutes) xs i fresh h

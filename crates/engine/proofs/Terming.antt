@@ -1,11 +1,11 @@
 -- The terms of a record of a day are within the bounds of settling.
-use Rattle.std.proofs.Common.{◌≡◌, ◌/◌, true, ◌&&◌, ◌||◌, ℤ, pos, ◌-ℤ◌, ◌*ℤ◌, neg_ℤ, nat_abs, ◌≤ℤ◌, sym, ap, ⊎_elim, arith}
+use Rattle.std.proofs.Common.{◌≡◌, ℕ, ◌/◌, true, ◌&&◌, ◌||◌, ℤ, pos, ◌-ℤ◌, ◌*ℤ◌, neg_ℤ, nat_abs, ◌≤ℤ◌, Ok, sym, ap, ◌∙◌, ⊎_elim, arith}
 use lib.Signed.{le_z, lt_z}
 use borrow.Author.Differences.{ints}
 use Rattle.std.proofs.lemmas.Bool.{and_parts, and_from, or_cases}
 use Rattle.market.specs.declared.records.Interval.{Interval}
-use Rattle.market.specs.Bounds.{same, within_range, minutes_ok, price_ok, net_ok}
-use Rattle.market.proofs.Facts.{between_two, same_true}
+use Rattle.market.specs.Bounds.{same, within_range, minutes_ok, in_day, price_ok, net_ok, terms_table, terms_bounds}
+use Rattle.market.proofs.Facts.{tests_out, between_two, same_true}
 use Rattle.entries.specs.Lawful.{rounded_ok, quarters_ok}
 use Rattle.engine.specs.Sound.{terms_lawful}
 
@@ -29,3 +29,10 @@ quarters-lawful m e =
     ⊎_elim (λ p. ap (λ (z : ℤ). quarters_ok (nat_abs z / 15)) (same_true m (pos 15) p))
     (λ r. ⊎_elim (λ p. ap (λ (z : ℤ). quarters_ok (nat_abs z / 15)) (same_true m (pos 30) p)) (λ p. ap (λ (z : ℤ). quarters_ok (nat_abs z / 15)) (same_true m (pos 60) p)) (or_cases (same m (pos 30)) (same m (pos 60)) r))
     (or_cases (same m (pos 15)) (same m (pos 30) || same m (pos 60)) e)
+
+-- terms that are not refused: the day has the interval, and a record with them is lawful
+pub passed_terms : (n m : ℕ) (i price net rounded : ℤ) → m ≡ n → Ok tt ≡ terms_bounds m i price net rounded
+    → (in_day n i ≡ true) × ((price_ok price && net_ok net rounded) ≡ true)
+passed_terms n m i price net rounded e h =
+    let t = tests_out (terms_table m i price net rounded) (sym h) in
+    (ap (λ (k : ℕ). in_day k i) (sym e) ∙ t.0, and_from (price_ok price) (net_ok net rounded) t.1.0 t.1.1.0)

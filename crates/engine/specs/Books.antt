@@ -1,17 +1,20 @@
 -- The book: what the calls of an open and of a closed book answer, and what they leave.
-use Rattle.std.specs.Prelude.{◌≡◌, ℕ, ◌+◌, ◌&&◌, List, [], ◌∷◌, ℤ, Ok, Err, Result, nat_lt, slice_set, unsigned_abs}
+use Rattle.std.specs.Prelude.{◌≡◌, ℕ, ◌+◌, Bool, ◌&&◌, List, [], ◌∷◌, length, ℤ, Ok, Err, Result, nat_le, nat_lt, slice_set, unsigned_abs}
+use Rattle.market.specs.declared.records.Order.{Order}
+use Rattle.market.specs.declared.records.Block.{Block}
 use Rattle.market.specs.declared.refusal.Refusal.{Refusal}
 use Rattle.market.specs.declared.refusal.Refusal.TheVariants.{Full}
 use Rattle.market.specs.First.{tests, then}
 use Rattle.market.specs.Bounds.{start_bounds}
 use Rattle.engine.specs.declared.day.Day.{Day}
+use Rattle.engine.specs.declared.book.Counts.{Counts}
 use Rattle.engine.specs.declared.book.Open.{Open}
 use Rattle.engine.specs.Days.{Fresh, Recorded, place_of, record_of, with_terms}
 
 -- what start answers: a fresh day and an empty open book, or the foremost refusal
 abbrev pub Started : ℤ → ℤ → Result (Day × Open) Refusal → Type 0
 Started minutes count (Ok (day, book)) =
-    (start_bounds minutes count ≡ Ok tt) × Fresh minutes (unsigned_abs count) day × (book.orders ≡ 0) × (book.blocks ≡ 0)
+    (start_bounds minutes count ≡ Ok tt) × Fresh minutes (unsigned_abs count) day × (book.counts.orders ≡ 0) × (book.counts.blocks ≡ 0)
 Started minutes count (Err e) = start_bounds minutes count ≡ Err e
 
 -- what terms leaves: one record changed, or after a refusal the day as it was
@@ -36,3 +39,7 @@ Entered (Err e) x count memory count' memory' = (count' ≡ count) × (memory' �
 abbrev pub taken : Result ℕ Refusal → ℕ → ℕ
 taken (Ok number) count = number
 taken (Err e) count = count
+
+-- neither memory is shorter than its count
+abbrev pub holds : Counts → List Order → List Block → Bool
+holds c os bs = nat_le c.orders (length os) && nat_le c.blocks (length bs)

@@ -1,5 +1,5 @@
 -- Judging a paper on a closed book: the verdict on the records that the book counts.
-use Rattle.std.specs.Prelude.{◌≡◌, ℕ, ◌≤◌, Bool, ◌&&◌, ◌⊎◌, List, [], ◌∷◌, length, take, ℤ, Ok, Err, Result, ◌==◌, nat_le}
+use Rattle.std.specs.Prelude.{◌≡◌, ℕ, ◌≤◌, Bool, ◌&&◌, ◌⊎◌, List, [], ◌∷◌, length, take, ℤ, Ok, Err, Result, ◌==◌}
 use Rattle.market.specs.declared.records.Order.{Order}
 use Rattle.market.specs.declared.records.Block.{Block}
 use Rattle.market.specs.declared.refusal.Refusal.{Refusal}
@@ -15,31 +15,32 @@ use Rattle.engine.specs.declared.book.Closed.{Closed}
 use Rattle.engine.specs.declared.book.Pass.{Pass}
 use Rattle.engine.specs.declared.book.Fail.{Fail}
 use Rattle.engine.specs.Days.{records}
+use Rattle.engine.specs.Books.{holds}
 
 -- the test of the memory: no shorter than the counts, and as many fills as entries
 abbrev pub memory_ok : Closed → List Order → List ℕ → List Block → List ℕ → Bool
 memory_ok c os fs bs gs =
-    nat_le c.orders (length os) && (nat_le c.blocks (length bs) && (length fs == c.orders && length gs == c.blocks))
+    holds c.counts os bs && (length fs == c.counts.orders && length gs == c.counts.blocks)
 
 -- what judging answers: 11 for the memory, then the verdict on the counted records
 abbrev pub judge_answer : Closed → Day → List Order → List ℕ → List Block → List ℕ → Result ℤ Refusal
 judge_answer c d os fs bs gs =
-    then (tests ((memory_ok c os fs bs gs, Short) ∷ [])) (verdict_of (records d) (take c.orders os) fs (take c.blocks bs) gs)
+    then (tests ((memory_ok c os fs bs gs, Short) ∷ [])) (verdict_of (records d) (take c.counts.orders os) fs (take c.counts.blocks bs) gs)
 
 -- no memory is shorter than its count, and each list of fills is as long as its count
 pub record MemoryFits (c : Closed) (os : List Order) (fs : List ℕ) (bs : List Block) (gs : List ℕ) : Type 0 where
-  pub orders : c.orders ≤ length os
-  pub blocks : c.blocks ≤ length bs
-  pub order_fills : length fs ≡ c.orders
-  pub block_fills : length gs ≡ c.blocks
+  pub orders : c.counts.orders ≤ length os
+  pub blocks : c.counts.blocks ≤ length bs
+  pub order_fills : length fs ≡ c.counts.orders
+  pub block_fills : length gs ≡ c.counts.blocks
 
 module _ (c : Closed) (d : Day) (os : List Order) (fs : List ℕ) (bs : List Block) (gs : List ℕ) where
   -- the orders and the blocks of the book
   abbrev pub book_orders : List Order
-  book_orders = take c.orders os
+  book_orders = take c.counts.orders os
 
   abbrev pub book_blocks : List Block
-  book_blocks = take c.blocks bs
+  book_blocks = take c.counts.blocks bs
 
   -- the memory and the records are in order, and the paper keeps every rule
   pub record PaperPasses : Type 0 where
@@ -65,5 +66,5 @@ verdict_in (Err fail) = Err fail.refusal
 
 -- the passed book has the counts of the closed one, and a refusal gives the closed book back
 abbrev pub Handed : Closed → Result Pass Fail → Type 0
-Handed c (Ok pass) = (pass.book.orders ≡ c.orders) × (pass.book.blocks ≡ c.blocks)
+Handed c (Ok pass) = pass.book.counts ≡ c.counts
 Handed c (Err fail) = fail.book ≡ c

@@ -1,5 +1,5 @@
 -- The marks of an interval, and a remainder in hand.
-use Rattle.std.specs.Prelude.{◌≡◌, Bool, true, false, cond, ◌&&◌, List, [], ◌∷◌, ℤ, Ok, Err, Result}
+use Rattle.std.specs.Prelude.{◌≡◌, Bool, true, false, ◌&&◌, [], ◌∷◌, ℤ, Ok, Err, Result}
 use Rattle.market.specs.declared.records.Interval.{Interval}
 use Rattle.market.specs.declared.records.Mark.{Mark}
 use Rattle.market.specs.declared.records.Mark.TheVariants.{Unsettled, Out, Noted, Closed}
@@ -59,11 +59,10 @@ abbrev pub Noting : Day → Remainder → Result Unit Returned → Day → Type 
 Noting d t (Ok _) d' = (note_answer d t ≡ Ok tt) × Marked d t.interval Noted d'
 Noting d t (Err back) d' = (note_answer d t ≡ Err back.refusal) × (back.remainder ≡ t) × (d' ≡ d)
 
--- the remainder of an interval, in hand and not yet spent
+-- the remainder of an interval, in hand: its type keeps it from being let go
 pub record Handed (i steps : ℤ) (t : Remainder) : Type 0 where
   pub interval : t.interval ≡ i
   pub amount : t.steps ≡ steps
-  pub unspent : t.spent ≡ false
 
 -- what taking up leaves: the noted remainder in hand and the interval out, or the day as it was
 abbrev pub Taking : Day → ℤ → Result Remainder Refusal → Day → Type 0

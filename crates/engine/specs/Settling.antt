@@ -1,5 +1,5 @@
 -- Settling an interval on a passed book: what it answers, and what it leaves.
-use Rattle.std.specs.Prelude.{◌≡◌, ℕ, Bool, ◌&&◌, List, [], ◌∷◌, length, take, ℤ, ◌+ℤ◌, Ok, Err, Result, nat_le, unsigned_abs}
+use Rattle.std.specs.Prelude.{◌≡◌, ℕ, List, [], ◌∷◌, take, ℤ, ◌+ℤ◌, Ok, Err, Result, unsigned_abs}
 use Rattle.ledger.specs.declared.account.Account.{Account}
 use Rattle.ledger.specs.Model.{total}
 use Rattle.posting.specs.declared.posting.Posting.{Posting}
@@ -19,6 +19,7 @@ use Rattle.engine.specs.declared.book.Passed.{Passed}
 use Rattle.engine.specs.declared.refusal.Refusal.{Refusal}
 use Rattle.engine.specs.declared.refusal.Refusal.TheVariants.{Market, Posting as UnpostedCall, NotUnsettled}
 use Rattle.engine.specs.declared.remainder.Remainder.{Remainder}
+use Rattle.engine.specs.Books.{holds}
 use Rattle.engine.specs.Days.{Recorded, place_of, record_of, with_state, conditions_of}
 use Rattle.market.specs.First.{tests, then}
 use Rattle.engine.specs.Marks.{is_unsettled, Handed}
@@ -44,30 +45,26 @@ pub record Lengths : Type 0 where
 abbrev pub lengths_of : ℕ → ℕ → ℕ → ℕ → Lengths
 lengths_of sheet numbers orders blocks = record { sheet = sheet; numbers = numbers; order_list = orders; block_list = blocks }
 
--- neither memory is shorter than its count
-abbrev pub holds : Passed → List Order → List Block → Bool
-holds p os bs = nat_le p.orders (length os) && nat_le p.blocks (length bs)
-
 -- 3, 19, 11: what is looked at before the book
 abbrev pub ready : Passed → Day → List Order → List Block → ℤ → Result Unit Refusal
-ready p d os bs i = tests ((in_day d.count i, Market NoInterval) ∷ (is_unsettled (record_of d i).mark, NotUnsettled) ∷ (holds p os bs, Market Short) ∷ [])
+ready p d os bs i = tests ((in_day d.count i, Market NoInterval) ∷ (is_unsettled (record_of d i).mark, NotUnsettled) ∷ (holds p.counts os bs, Market Short) ∷ [])
 
 module _ (p : Passed) (d : Day) (os : List Order) (fs : List ℕ) (bs : List Block) (gs : List ℕ) (i : ℤ) where
   -- the postings of the interval
   unfoldable pub postings : List Posting
-  postings = settle_list (take p.orders os) fs (take p.blocks bs) gs (unsigned_abs i) (conditions_of d i)
+  postings = settle_list (take p.counts.orders os) fs (take p.counts.blocks bs) gs (unsigned_abs i) (conditions_of d i)
 
   -- its remainder
   unfoldable pub steps : ℤ
-  steps = settle_steps (take p.orders os) fs (take p.blocks bs) gs (unsigned_abs i) (conditions_of d i)
+  steps = settle_steps (take p.counts.orders os) fs (take p.counts.blocks bs) gs (unsigned_abs i) (conditions_of d i)
 
   -- the sheet with its settled numbers
   unfoldable pub sheet_after : List ℕ → List ℕ
-  sheet_after s = settle_sheet (take p.orders os) fs (take p.blocks bs) gs d.count (unsigned_abs i) (conditions_of d i) s
+  sheet_after s = settle_sheet (take p.counts.orders os) fs (take p.counts.blocks bs) gs d.count (unsigned_abs i) (conditions_of d i) s
 
   -- 11, 12, 13 on the book's own records
   unfoldable pub checks : Lengths → Result Unit MarketRefusal
-  checks l = settle_checks (take p.orders os) fs (take p.blocks bs) gs d.count (unsigned_abs i) l.sheet l.numbers l.order_list l.block_list
+  checks l = settle_checks (take p.counts.orders os) fs (take p.counts.blocks bs) gs d.count (unsigned_abs i) l.sheet l.numbers l.order_list l.block_list
 
   -- what settling answers: the foremost refusal, or the remainder
   abbrev pub settle_answer : Lengths → List Account → Result ℤ Refusal

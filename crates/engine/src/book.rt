@@ -5,29 +5,32 @@ use market::refusal::Refusal;
 
 pub mod calls;
 pub mod judging;
+mod memory;
+
+/// How many entries a book has.
+#[derive(Drop)]
+pub struct Counts {
+    pub(crate) orders: usize,
+    pub(crate) blocks: usize,
+    ghost few: { (orders ≤ 1024) × (blocks ≤ 64) },
+}
 
 /// A book that takes terms and entries.
 #[derive(Drop)]
 pub struct Open {
-    pub(crate) orders: usize,
-    pub(crate) blocks: usize,
-    ghost few: { (orders ≤ 1024) × (blocks ≤ 64) },
+    pub(crate) counts: Counts,
 }
 
 /// A book that can be judged, and nothing else.
 #[derive(Drop)]
 pub struct Closed {
-    pub(crate) orders: usize,
-    pub(crate) blocks: usize,
-    ghost few: { (orders ≤ 1024) × (blocks ≤ 64) },
+    pub(crate) counts: Counts,
 }
 
 /// A book on which a paper has passed. It comes from judging alone.
 #[derive(Drop)]
 pub struct Passed {
-    pub(crate) orders: usize,
-    pub(crate) blocks: usize,
-    ghost few: { (orders ≤ 1024) × (blocks ≤ 64) },
+    pub(crate) counts: Counts,
 }
 
 /// A paper that passes: the passed book, and the welfare of the paper.

@@ -4,8 +4,8 @@
 pub mod book;
 pub mod booking;
 pub mod day;
+mod lifting;
 pub mod noting;
 pub mod refusal;
 pub mod remainder;
 pub mod settling;
-pub mod words;

@@ -13,15 +13,14 @@ impl Day {
     pub fn note(&mut self, remainder: Remainder) -> Result<(), Returned>
         ensures { Noting self.old remainder result self.new }
     {
-        if !self.shows_out(remainder.interval, remainder.steps) {
+        if !self.shows_out(&remainder) {
             return Err(Returned {
                 refusal: Refusal::NotOut,
                 remainder,
             });
         }
-        self.put_mark(remainder.interval as usize - 1, Mark::Noted);
-        let mut remainder = remainder;
-        remainder.spent = true;
+        let Remainder { interval, steps: _ } = remainder;
+        self.put_mark(interval, Mark::Noted);
         Ok(())
     }
 
@@ -29,19 +28,14 @@ impl Day {
     pub fn take_up(&mut self, interval: i32) -> Result<Remainder, Refusal>
         ensures { Taking self.old interval result self.new }
     {
-        if !self.has(interval) {
-            return Err(Refusal::Market(MarketRefusal::NoInterval));
-        }
-        let place = interval as usize - 1;
-        if !self.is_noted(place) {
+        let record = self.interval(interval).ok_or(MarketRefusal::NoInterval)?;
+        if record.mark != Mark::Noted {
             return Err(Refusal::NotNoted);
         }
-        let steps = self.remainder_at(place);
-        self.put_mark(place, Mark::Out);
+        self.put_mark(interval, Mark::Out);
         Ok(Remainder {
             interval,
-            steps,
-            spent: false,
+            steps: record.remainder,
         })
     }
 }

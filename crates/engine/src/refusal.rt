@@ -1,18 +1,24 @@
-// Why a settling call refuses, and where.
+// Why a settling call refuses, and where, in numbers and in plain words.
 ghost use Rattle.std.specs.Prelude.{◌≡◌};
 ghost use Rattle.engine.specs.Refusals.{number_of, place_of};
 
 use ledger::PostRefused;
+use thiserror::Error;
 
 /// The refusals of the settling calls, and what comes from below.
-#[derive(Clone, Copy, PartialEq, Eq, Debug)]
+#[derive(Clone, Copy, PartialEq, Eq, Debug, Error)]
 pub enum Refusal {
     /// The interval, a memory, a record or a fill.
+    #[error("{0}")]
     Market(market::refusal::Refusal),
     /// The first posting that is refused.
+    #[error("{0}")]
     Posting(PostRefused),
+    #[error("{}: the interval is not unsettled", self.number())]
     NotUnsettled,
+    #[error("{}: the day does not show the interval out with that remainder", self.number())]
     NotOut,
+    #[error("{}: the interval is not noted", self.number())]
     NotNoted,
 }
 

@@ -1,26 +1,14 @@
 // A remainder in hand: it has to be booked or noted.
-ghost use Rattle.std.specs.Prelude.{◌≡◌, true};
+ghost use Rattle.std.specs.Prelude.{◌≡◌};
 
 use super::refusal::Refusal;
 
-/// What settling an interval has left over, in steps. Whoever holds one has to book it or note it: one that lapses is refused by
-/// the check.
+/// What settling an interval has left over, in steps. Whoever holds one has to book it or note it: it has no `Drop`, so the check
+/// refuses a program that lets one go.
+#[must_use]
 pub struct Remainder {
     pub(crate) interval: i32,
     pub(crate) steps: i32,
-    pub(crate) spent: bool,
-}
-
-impl Drop for Remainder {
-    fn drop(self)
-        requires { self.spent ≡ true }
-    {
-        let Remainder {
-            interval: _,
-            steps: _,
-            spent: _,
-        } = self;
-    }
 }
 
 impl Remainder {
@@ -40,6 +28,7 @@ impl Remainder {
 }
 
 /// A remainder that was not taken, with the reason.
+#[must_use]
 pub struct Returned {
     pub refusal: Refusal,
     pub remainder: Remainder,

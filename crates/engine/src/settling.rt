@@ -1,62 +1,36 @@
 // Settling an interval on a passed book.
-ghost use Rattle.std.specs.Prelude.{◌≡◌, ◌≤◌, length, take};
-ghost use Rattle.engine.specs.Settling.{holds, ready, lifted_by, lengths_of, Settling, Moves};
+ghost use Rattle.std.specs.Prelude.{◌≡◌, length, take, true, Ok, Err, IfOk, OnOk, IfErr};
+ghost use Rattle.market.specs.Bounds.{in_day};
+ghost use Rattle.engine.specs.Settling.{ready, lengths_of, Settling, Moves};
 
 use super::book::Passed;
 use super::day::Day;
 use super::refusal::Refusal;
 use super::remainder::Remainder;
 use cuts::candidates::{BlockCandidate, OrderCandidate};
-use entries::{SettleRefused, settle_interval};
+use entries::settle_interval;
 use ledger::Ledger;
 use market::records::{Book, Fills, Mark};
 use market::refusal::Refusal as MarketRefusal;
 
-fn lift(refused: SettleRefused) -> Refusal
-    ensures { result ≡ lifted_by refused }
-{
-    match refused {
-        SettleRefused::Market(refusal) => Refusal::Market(refusal),
-        SettleRefused::Posting(refused) => Refusal::Posting(refused),
-    }
-}
-
 impl Passed {
-    fn holds(&self, memory: Book<'_>) -> bool
-        ensures { result ≡ holds self.now memory.entry.orders.now memory.entry.blocks.now }
+    // The entries of the book in the memory, where the interval is unsettled: 3, 19, 11.
+    fn ready<'a>(&self, day: &Day, memory: Book<'a>, interval: i32) -> Result<Book<'a>, Refusal>
+        ensures refuses { IfErr result (λ refusal. ready self.now day.now memory.entry.orders.now memory.entry.blocks.now interval ≡ Err refusal) }
+        ensures passes { OnOk result (ready self.now day.now memory.entry.orders.now memory.entry.blocks.now interval ≡ Ok tt) }
+        ensures within { OnOk result (in_day day.now.count interval ≡ true) }
+        ensures orders { IfOk result (λ book. book.orders.now ≡ take self.now.counts.orders memory.entry.orders.now) }
+        ensures blocks { IfOk result (λ book. book.blocks.now ≡ take self.now.counts.blocks memory.entry.blocks.now) }
     {
-        self.orders <= memory.orders.len() && self.blocks <= memory.blocks.len()
-    }
-
-    // The entries of the book in the memory.
-    fn held<'a>(&self, memory: Book<'a>) -> Book<'a>
-        requires { (self.now.orders ≤ length memory.orders.now) × (self.now.blocks ≤ length memory.blocks.now) }
-        ensures orders { result.orders.now ≡ take self.now.orders memory.entry.orders.now }
-        ensures blocks { result.blocks.now ≡ take self.now.blocks memory.entry.blocks.now }
-    {
-        Book {
-            orders: &memory.orders[0..self.orders],
-            blocks: &memory.blocks[0..self.blocks],
-        }
-    }
-
-    fn check_settling(&self, day: &Day, memory: Book<'_>, interval: i32) -> Result<(), Refusal>
-        ensures { result ≡ ready self.now day.now memory.entry.orders.now memory.entry.blocks.now interval }
-    {
-        if !day.has(interval) {
-            return Err(Refusal::Market(MarketRefusal::NoInterval));
-        }
-        if !day.is_unsettled(interval as usize - 1) {
+        let record = day.interval(interval).ok_or(MarketRefusal::NoInterval)?;
+        if record.mark != Mark::Unsettled {
             return Err(Refusal::NotUnsettled);
         }
-        if !self.holds(memory) {
-            return Err(Refusal::Market(MarketRefusal::Short));
-        }
-        Ok(())
+        self.counts
+            .held(memory)
+            .ok_or(Refusal::Market(MarketRefusal::Short))
     }
-}
 
-impl Passed {
     /// Settles an interval by the passed paper and hands its remainder over, also when it is 0.
     ///
     /// The settled numbers of the interval's entries go into the sheet, their amounts to the accounts of the entries, plus for sells
@@ -79,13 +53,9 @@ impl Passed {
         ensures moves { Moves day.old interval result (L.Accounts.model ledger.old) (L.Accounts.model ledger.new) }
         ensures keeps { L.Ledger.kept ledger.old ledger.new }
     {
-        if let Err(refusal) = self.check_settling(day, memory, interval) {
-            return Err(refusal);
-        }
-        let place = interval as usize - 1;
-        let book = self.held(memory);
-        let terms = day.terms_at(place);
-        match settle_interval(
+        let book = self.ready(day, memory, interval)?;
+        let terms = day.terms_of(day.record(interval));
+        let steps = settle_interval(
             book,
             fills,
             day.count(),
@@ -96,16 +66,8 @@ impl Passed {
             order_list,
             block_list,
             ledger,
-        ) {
-            Err(refused) => Err(lift(refused)),
-            Ok(steps) => {
-                day.put_state(place, Mark::Out, steps);
-                Ok(Remainder {
-                    interval,
-                    steps,
-                    spent: false,
-                })
-            }
-        }
+        )?;
+        day.put_state(interval, Mark::Out, steps);
+        Ok(Remainder { interval, steps })
     }
 }

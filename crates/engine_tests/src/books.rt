@@ -2,7 +2,7 @@
 use engine::book::calls::start;
 use engine::book::{Closed, Open};
 use engine::day::Day;
-use market::records::{Block, Interval, Mark, Market, Order, Side};
+use market::records::{Block, Book, Fills, Interval, Mark, Market, Order, Side};
 use market::refusal::Refusal;
 use std::test::Fail;
 
@@ -45,8 +45,7 @@ fn terms_change_one_record(rt: HostRuntime) -> Result<(), Fail> {
             price: -7,
             net: 301,
             rounded: 3,
-            mark: Mark::Unsettled,
-            remainder: 0,
+            ..fresh
         })
     );
     assert_eq!(rt; book.terms(&mut day, 3, 0, 0, 0), Err(Refusal::NoInterval));
@@ -68,12 +67,12 @@ fn a_full_memory_refuses_last(rt: HostRuntime) -> Result<(), Fail> {
     let mut memory = [PLAIN; 2];
     let other = Order {
         side: Side::Sell,
-        interval: 1,
         limit: 5,
         quantity: 1,
         market: Market::Derivative,
         stamp: 9,
         account: 2,
+        ..PLAIN
     };
     assert_eq!(rt; book.enter_order(&day, &mut memory, other), Ok(1));
     assert_eq!(rt; memory, [other, PLAIN]);
@@ -103,14 +102,19 @@ fn a_memory_shorter_than_its_count_is_refused(rt: HostRuntime) -> Result<(), Fai
     let mut memory = [PLAIN; 2];
     book.enter_order(&day, &mut memory, PLAIN)?;
     book.enter_order(&day, &mut memory, PLAIN)?;
-    let closed = book.close();
-    match closed.judge(&day, &memory[0..1], &[0, 0], &[], &[]) {
-        Ok(_) => Err(Fail::new("a short memory passed")),
-        Err(fail) => {
-            assert_eq!(rt; fail.refusal, Refusal::Short);
-            Ok(())
-        },
-    }
+    let short = Book {
+        orders: &memory[0..1],
+        blocks: &[],
+    };
+    let fills = Fills {
+        orders: &[0, 0],
+        blocks: &[],
+    };
+    let Err(fail) = book.close().judge(&day, short, fills) else {
+        return Err(Fail::new("a short memory passed"));
+    };
+    assert_eq!(rt; fail.refusal, Refusal::Short);
+    Ok(())
 }
 
 // A day of 100 intervals at the lowest price, with the net positions of a full book of purchases.
@@ -148,11 +152,17 @@ fn a_full_book_at_the_extremes(rt: HostRuntime) -> Result<(), Fail> {
     let mut orders = [PLAIN; 1025];
     let mut blocks = [EVERYWHERE; 65];
     let closed = fill_book(&day, book, &mut orders, &mut blocks)?;
-    match closed.judge(&day, &orders, &[1_000_000; 1024], &blocks, &[1_000_000; 64]) {
-        Ok(pass) => {
-            assert_eq!(rt; pass.welfare, 2_969_600_000_000_000);
-            Ok(())
-        },
-        Err(_) => Err(Fail::new("the full book is refused")),
-    }
+    let book = Book {
+        orders: &orders,
+        blocks: &blocks,
+    };
+    let fills = Fills {
+        orders: &[1_000_000; 1024],
+        blocks: &[1_000_000; 64],
+    };
+    let Ok(pass) = closed.judge(&day, book, fills) else {
+        return Err(Fail::new("the full book is refused"));
+    };
+    assert_eq!(rt; pass.welfare, 2_969_600_000_000_000);
+    Ok(())
 }

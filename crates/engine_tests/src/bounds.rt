@@ -1,5 +1,6 @@
 // The bounds of entry: the last number that is allowed, the first that is not, and the least and greatest of all.
 use market::bounds::{check_start, check_terms};
+use market::entry::Entry;
 use market::records::{Block, Market, Order, Side};
 use market::refusal::Refusal;
 
@@ -8,10 +9,7 @@ const LEAST: i32 = i32::MIN;
 const MOST: i32 = i32::MAX;
 
 fn number(answer: Result<(), Refusal>) -> u32 {
-    match answer {
-        Ok(()) => 0,
-        Err(refusal) => refusal.number(),
-    }
+    answer.err().map_or(0, |refusal| refusal.number())
 }
 
 #[test]

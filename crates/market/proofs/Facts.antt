@@ -11,12 +11,12 @@ use Rattle.market.specs.First.{tests}
 use Rattle.market.specs.Bounds.{same, in_day, price_ok, quantity_ok, account_ok, least_ok, span_ok, order_table, order_bounds, block_table, block_bounds}
 
 -- a table of tests that refuses nothing: each test passes
-pub tests_out : (ts : List (Bool × Refusal)) → tests ts ≡ Ok tt → Every (λ t. t.0 ≡ true) ts
+pub tests_out : {E : Type 0} → (ts : List (Bool × E)) → tests ts ≡ Ok tt → Every (λ t. t.0 ≡ true) ts
 tests_out [] e = tt
 tests_out ((true, r) ∷ ts) e = (refl, tests_out ts e)
 tests_out ((false, r) ∷ ts) e = let z : ◌≡◌ {A = ℕ} 0 1 = cc in absurd (omega arith)
 
-pub tests_back : (ts : List (Bool × Refusal)) → Every (λ t. t.0 ≡ true) ts → tests ts ≡ Ok tt
+pub tests_back : {E : Type 0} → (ts : List (Bool × E)) → Every (λ t. t.0 ≡ true) ts → tests ts ≡ Ok tt
 tests_back [] a = refl
 tests_back ((true, r) ∷ ts) a = tests_back ts a.1
 tests_back ((false, r) ∷ ts) a = let z : ◌≡◌ {A = Bool} false true = a.0 in absurd (let n : ◌≡◌ {A = ℕ} 0 1 = cc in omega arith)

@@ -41,7 +41,8 @@ fn is_count(count: i32) -> bool
     is_in_day(MOST_INTERVALS, count)
 }
 
-pub(crate) fn is_in_day(intervals: usize, interval: i32) -> bool
+/// Whether a day of so many intervals has the interval: they are numbered from 1.
+pub fn is_in_day(intervals: usize, interval: i32) -> bool
     ensures { result ≡ in_day intervals interval }
 {
     1 <= interval && interval as usize <= intervals

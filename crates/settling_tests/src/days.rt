@@ -5,7 +5,6 @@ use engine::book::{Closed, Open, Pass, Passed};
 use engine::day::Day;
 use engine::refusal::Refusal;
 use engine::remainder::Returned;
-
 use ledger::Ledger;
 use market::records::{Book, Fills, Market, Order, Side};
 use market::refusal::Refusal as MarketRefusal;
@@ -63,6 +62,33 @@ fn enter_all(
     Ok(book.close())
 }
 
+/// A book without blocks, and a paper on it.
+pub(crate) fn only_orders<'a>(orders: &'a [Order], fills: &'a [u32]) -> (Book<'a>, Fills<'a>) {
+    (
+        Book {
+            orders,
+            blocks: &[],
+        },
+        Fills {
+            orders: fills,
+            blocks: &[],
+        },
+    )
+}
+
+/// The book on which a paper passes.
+pub(crate) fn passed(
+    closed: Closed,
+    day: &Day,
+    book: Book<'_>,
+    fills: Fills<'_>,
+) -> Result<Passed, Fail> {
+    match closed.judge(day, book, fills) {
+        Ok(Pass { book, .. }) => Ok(book),
+        Err(_) => Err(Fail::new("the paper should pass")),
+    }
+}
+
 /// The day with its net position of 350 thousandths rounded to so many steps, and its passed book.
 pub(crate) fn passed_day(
     minutes: i32,
@@ -74,33 +100,21 @@ pub(crate) fn passed_day(
     book.terms(&mut day, 1, price, 350, rounded)?;
     let mut memory = orders(price);
     let closed = enter_all(&day, book, &mut memory, &orders(price))?;
-    match closed.judge(&day, &memory, fills, &[], &[]) {
-        Ok(pass) => {
-            let Pass { book, welfare: _ } = pass;
-            Ok((day, book))
-        }
-        Err(_) => Err(Fail::new("the paper should pass")),
-    }
+    let (book, fills) = only_orders(&memory, fills);
+    let passed = passed(closed, &day, book, fills)?;
+    Ok((day, passed))
 }
 
-/// Settles interval 1 of such a day, and notes its remainder, which is never refused: it was just handed over.
+/// Settles an interval, and notes its remainder, which is never refused: it was just handed over.
 pub(crate) fn settle_and_note<L: Ledger>(
     passed: &Passed,
     day: &mut Day,
-    price: i32,
-    fills: &[u32],
+    book: Book<'_>,
+    fills: Fills<'_>,
     sheet: &mut [u32],
     ledger: &mut L,
+    interval: i32,
 ) -> Result<i32, Refusal> {
-    let orders = orders(price);
-    let book = Book {
-        orders: &orders,
-        blocks: &[],
-    };
-    let fills = Fills {
-        orders: fills,
-        blocks: &[],
-    };
     let remainder = passed.settle(
         day,
         book,
@@ -110,7 +124,7 @@ pub(crate) fn settle_and_note<L: Ledger>(
         &mut [NO_ORDER; 3],
         &mut [NO_BLOCK; 3],
         ledger,
-        1,
+        interval,
     )?;
     let steps = remainder.steps();
     match day.note(remainder) {
@@ -130,14 +144,7 @@ pub(crate) fn offered_elsewhere<L: Ledger>(
     ledger: &mut L,
 ) -> Result<(u32, u32), Refusal> {
     let orders = orders(price);
-    let book = Book {
-        orders: &orders,
-        blocks: &[],
-    };
-    let fills = Fills {
-        orders: &FILLS,
-        blocks: &[],
-    };
+    let (book, fills) = only_orders(&orders, &FILLS);
     let remainder = passed.settle(
         day,
         book,
@@ -149,22 +156,22 @@ pub(crate) fn offered_elsewhere<L: Ledger>(
         ledger,
         1,
     )?;
-    let (booking, remainder) = match other.book(ledger, remainder) {
-        Ok(()) => return Ok((0, 0)),
-        Err(returned) => {
-            let Returned { refusal, remainder } = returned;
-            (refusal.number(), remainder)
-        }
+    let Err(returned) = other.book(ledger, remainder) else {
+        return Ok((0, 0));
     };
-    let (noting, remainder) = match other.note(remainder) {
-        Ok(()) => return Ok((booking, 0)),
-        Err(returned) => {
-            let Returned { refusal, remainder } = returned;
-            (refusal.number(), remainder)
-        }
+    let Returned {
+        refusal: booking,
+        remainder,
+    } = returned;
+    let Err(returned) = other.note(remainder) else {
+        return Ok((booking.number(), 0));
     };
+    let Returned {
+        refusal: noting,
+        remainder,
+    } = returned;
     match day.note(remainder) {
-        Ok(()) => Ok((booking, noting)),
+        Ok(()) => Ok((booking.number(), noting.number())),
         Err(_) => unreachable(),
     }
 }

@@ -1,5 +1,5 @@
 // What settling leaves, accepted and refused.
-use crate::days::{FILLS, offered_elsewhere, passed_day, settle_and_note};
+use crate::days::{FILLS, offered_elsewhere, only_orders, orders, passed_day, settle_and_note};
 use engine::refusal::Refusal;
 use ledger::{Account, PostRefused};
 use ledgers::Table;
@@ -41,8 +41,10 @@ fn amounts(rt: HostRuntime) -> Result<(), Fail> {
         let mut table = Table {
             records: &mut records,
         };
+        let orders = orders(price);
+        let (book, fills) = only_orders(&orders, &FILLS);
         assert_eq!(rt;
-            settle_and_note(&passed, &mut day, price, &FILLS, &mut sheet, &mut table),
+            settle_and_note(&passed, &mut day, book, fills, &mut sheet, &mut table, 1),
             Ok(0)
         );
         assert_eq!(rt; sheet, [100, 23, 120]);
@@ -100,8 +102,10 @@ fn refused_postings(rt: HostRuntime) -> Result<(), Fail> {
         let mut table = Table {
             records: &mut records,
         };
+        let orders = orders(5_000);
+        let (book, fills) = only_orders(&orders, &FILLS);
         assert_eq!(rt;
-            settle_and_note(&passed, &mut day, 5_000, &FILLS, &mut sheet, &mut table),
+            settle_and_note(&passed, &mut day, book, fills, &mut sheet, &mut table, 1),
             Err(refused)
         );
         assert_eq!(rt; sheet, [7, 7, 7]);
@@ -121,8 +125,10 @@ fn a_negative_gap_cuts_buys(rt: HostRuntime) -> Result<(), Fail> {
     let mut table = Table {
         records: &mut records,
     };
+    let orders = orders(5_000);
+    let (book, fills) = only_orders(&orders, &fills);
     assert_eq!(rt;
-        settle_and_note(&passed, &mut day, 5_000, &fills, &mut sheet, &mut table),
+        settle_and_note(&passed, &mut day, book, fills, &mut sheet, &mut table, 1),
         Ok(0)
     );
     assert_eq!(rt; sheet, [100, 0, 96]);

@@ -8,7 +8,7 @@ use cutting::show_cuts;
 use engine::book::calls::start;
 use engine::book::{Closed, Fail, Open, Pass, Passed};
 use engine::day::Day;
-use market::records::{Market, Order, Side};
+use market::records::{Book, Fills, Market, Order, Side};
 use settling::show_settling;
 
 mod accounts;
@@ -57,13 +57,6 @@ const FIRST_PAPER: [u32; 3] = [9_000, 3_350, 12_000];
 
 const SECOND_PAPER: [u32; 3] = [10_000, 2_350, 12_000];
 
-// What a verdict leaves in hand.
-#[derive(Drop)]
-enum Outcome {
-    Passed(Passed),
-    Refused(Closed),
-}
-
 fn trade(side: Side) -> &'static str {
     match side {
         Side::Sell => "sell",
@@ -79,15 +72,32 @@ fn enter_book(
 ) -> anyhow::Result<()> {
     for order in BOOK {
         let entry = book.enter_order(day, memory, order)?;
+        let Order {
+            quantity,
+            limit,
+            account,
+            ..
+        } = order;
         let trade = trade(order.side);
-        let quantity = order.quantity;
-        let limit = order.limit;
-        let account = order.account;
         println!(rt;
             "Entry {entry}: {trade} {quantity} steps of 0.1 MW, limit {limit} cents per MWh, account {account}."
         )?;
     }
     Ok(())
+}
+
+// The book and a paper on it: there are no blocks.
+fn paper<'a>(orders: &'a [Order], fills: &'a [u32]) -> (Book<'a>, Fills<'a>) {
+    (
+        Book {
+            orders,
+            blocks: &[],
+        },
+        Fills {
+            orders: fills,
+            blocks: &[],
+        },
+    )
 }
 
 fn judge(
@@ -96,18 +106,17 @@ fn judge(
     day: &Day,
     orders: &[Order],
     fills: &[u32],
-) -> anyhow::Result<Outcome> {
+) -> anyhow::Result<Result<Passed, Closed>> {
     println!(rt; "A paper is judged, with these fills in thousandths of a MW: {fills:?}.")?;
-    match closed.judge(day, orders, fills, &[], &[]) {
-        Ok(pass) => {
-            let Pass { book, welfare } = pass;
+    let (book, fills) = paper(orders, fills);
+    match closed.judge(day, book, fills) {
+        Ok(Pass { book, welfare }) => {
             println!(rt; "It passes with welfare {welfare}.")?;
-            Ok(Outcome::Passed(book))
+            Ok(Ok(book))
         }
-        Err(fail) => {
-            let Fail { refusal, book } = fail;
+        Err(Fail { refusal, book }) => {
             println!(rt; "It is refused with {refusal}.")?;
-            Ok(Outcome::Refused(book))
+            Ok(Err(book))
         }
     }
 }
@@ -123,24 +132,16 @@ fn run(rt: &HostRuntime) -> anyhow::Result<()> {
     enter_book(rt, &day, &mut book, &mut memory)?;
     let closed = book.close();
     println!(rt; "The book is closed.")?;
-    match judge(rt, closed, &day, &memory, &FIRST_PAPER)? {
-        Outcome::Passed(_) => Err(anyhow!("the first paper should have been refused")),
-        Outcome::Refused(closed) => {
-            let second = judge(rt, closed, &day, &memory, &SECOND_PAPER)?;
-            show_cuts(rt, &memory, &SECOND_PAPER, ROUNDED)?;
-            show_accounts(rt)?;
-            match second {
-                Outcome::Passed(passed) => show_settling(
-                    rt,
-                    &passed,
-                    &mut day,
-                    &memory,
-                    &SECOND_PAPER,
-                ),
-                Outcome::Refused(_) => Err(anyhow!("the second paper should have passed")),
-            }
-        }
-    }
+    let Err(closed) = judge(rt, closed, &day, &memory, &FIRST_PAPER)? else {
+        return Err(anyhow!("the first paper should have been refused"));
+    };
+    let second = judge(rt, closed, &day, &memory, &SECOND_PAPER)?;
+    show_cuts(rt, &memory, &SECOND_PAPER, ROUNDED)?;
+    show_accounts(rt)?;
+    let Ok(passed) = second else {
+        return Err(anyhow!("the second paper should have passed"));
+    };
+    show_settling(rt, &passed, &mut day, &memory, &SECOND_PAPER)
 }
 
 fn main(rt: HostRuntime) -> anyhow::Result<()> {

@@ -34,13 +34,10 @@ fn settle_and_book<L: Ledger>(
     let told = tell(rt, day, ledger);
     let refused = match day.book(ledger, remainder) {
         Ok(()) => None,
-        Err(returned) => {
-            let Returned { refusal, remainder } = returned;
-            match day.note(remainder) {
-                Ok(()) => Some(refusal),
-                Err(_) => unreachable(),
-            }
-        }
+        Err(Returned { refusal, remainder }) => match day.note(remainder) {
+            Ok(()) => Some(refusal),
+            Err(_) => unreachable(),
+        },
     };
     told?;
     match refused {

@@ -4,15 +4,12 @@ ghost use Rattle.market.specs.Bounds.{terms_bounds, order_bounds, block_bounds};
 ghost use Rattle.market.specs.First.{then};
 ghost use Rattle.engine.specs.Books.{Started, Termed, room, entry, taken, Entered};
 
-use super::{Closed, Open};
+use super::{Closed, Counts, Open};
 use crate::day::Day;
-use market::bounds::{check_start, check_terms};
-use market::records::{Block, Order};
+use market::bounds::{MOST_BLOCKS, MOST_ORDERS, check_start, check_terms};
+use market::entry::Entry;
+use market::records::{Block, Interval, Order};
 use market::refusal::Refusal;
-
-const MOST_ORDERS: usize = 1024;
-
-const MOST_BLOCKS: usize = 64;
 
 /// A fresh day of so many intervals, and its open book: 1 for the minutes, then 2 for the count.
 pub fn start(minutes: i32, count: i32) -> Result<(Day, Open), Refusal>
@@ -22,8 +19,10 @@ pub fn start(minutes: i32, count: i32) -> Result<(Day, Open), Refusal>
     Ok((
         Day::fresh(minutes, count as usize),
         Open {
-            orders: 0,
-            blocks: 0,
+            counts: Counts {
+                orders: 0,
+                blocks: 0,
+            },
         },
     ))
 }
@@ -55,7 +54,16 @@ impl Open {
         ensures leaves { Termed day.old interval price net rounded result day.new }
     {
         check_terms(day.count(), interval, price, net, rounded)?;
-        day.put_terms(interval as usize - 1, price, net, rounded);
+        let record = day.record(interval);
+        day.put(
+            interval,
+            Interval {
+                price,
+                net,
+                rounded,
+                ..record
+            },
+        );
         Ok(())
     }
 
@@ -66,13 +74,13 @@ impl Open {
         memory: &mut [Order],
         order: Order,
     ) -> Result<usize, Refusal>
-        ensures answers { result ≡ entry (order_bounds day.now.count order) self.old.orders (length memory.old) 1024 }
-        ensures leaves { Entered result order self.old.orders memory.old self.new.orders memory.new }
-        ensures blocks { self.new.blocks ≡ self.old.blocks }
+        ensures answers { result ≡ entry (order_bounds day.now.count order) self.old.counts.orders (length memory.old) 1024 }
+        ensures leaves { Entered result order self.old.counts.orders memory.old self.new.counts.orders memory.new }
+        ensures blocks { self.new.counts.blocks ≡ self.old.counts.blocks }
     {
         order.check_bounds(day.count())?;
-        self.orders = enter(memory, self.orders, MOST_ORDERS, order)?;
-        Ok(self.orders)
+        self.counts.orders = enter(memory, self.counts.orders, MOST_ORDERS, order)?;
+        Ok(self.counts.orders)
     }
 
     /// Enters a block into the caller's memory, and answers its number among the blocks: 3, 4, 7, 10, 8, and last 6 when the memory
@@ -83,22 +91,21 @@ impl Open {
         memory: &mut [Block],
         block: Block,
     ) -> Result<usize, Refusal>
-        ensures answers { result ≡ entry (block_bounds day.now.count block) self.old.blocks (length memory.old) 64 }
-        ensures leaves { Entered result block self.old.blocks memory.old self.new.blocks memory.new }
-        ensures orders { self.new.orders ≡ self.old.orders }
+        ensures answers { result ≡ entry (block_bounds day.now.count block) self.old.counts.blocks (length memory.old) 64 }
+        ensures leaves { Entered result block self.old.counts.blocks memory.old self.new.counts.blocks memory.new }
+        ensures orders { self.new.counts.orders ≡ self.old.counts.orders }
     {
         block.check_bounds(day.count())?;
-        self.blocks = enter(memory, self.blocks, MOST_BLOCKS, block)?;
-        Ok(self.blocks)
+        self.counts.blocks = enter(memory, self.counts.blocks, MOST_BLOCKS, block)?;
+        Ok(self.counts.blocks)
     }
 
     /// Closes the book: it takes no more terms and entries.
     pub fn close(self) -> Closed
-        ensures { (result.orders ≡ self.orders) × (result.blocks ≡ self.blocks) }
+        ensures { result.counts ≡ self.counts }
     {
         Closed {
-            orders: self.orders,
-            blocks: self.blocks,
+            counts: self.counts,
         }
     }
 }

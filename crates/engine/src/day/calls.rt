@@ -1,10 +1,11 @@
 // Reading a day, and changing one of its records.
-ghost use Rattle.std.specs.Prelude.{◌≡◌, ℕ, ◌<◌, ◌≤◌, true, slice_index_or};
-ghost use Rattle.market.specs.Blank.{fresh};
-ghost use Rattle.market.specs.Bounds.{minutes_ok, price_ok, net_ok, in_day};
-ghost use Rattle.engine.specs.Days.{Fresh, Recorded, records, shown, with_terms};
+ghost use Rattle.std.specs.Prelude.{◌≡◌, ℕ, ◌<◌, ◌≤◌, true};
+ghost use Rattle.market.specs.Bounds.{minutes_ok, in_day};
+ghost use Rattle.engine.specs.Days.{Fresh, Recorded, place_of, record_of, records, shown};
+ghost use Rattle.engine.specs.Sound.{terms_lawful};
 
 use super::Day;
+use market::bounds::is_in_day;
 use market::records::{Interval, Mark};
 
 const FRESH: Interval = Interval {
@@ -14,18 +15,6 @@ const FRESH: Interval = Interval {
     mark: Mark::Unsettled,
     remainder: 0,
 };
-
-fn with_terms(record: Interval, price: i32, net: i32, rounded: i32) -> Interval
-    ensures { result ≡ with_terms «record» price net rounded }
-{
-    Interval {
-        price,
-        net,
-        rounded,
-        mark: record.mark,
-        remainder: record.remainder,
-    }
-}
 
 impl Day {
     pub(crate) fn fresh(minutes: i32, count: usize) -> Day
@@ -57,8 +46,8 @@ impl Day {
     pub fn interval(&self, number: i32) -> Option<Interval>
         ensures { result ≡ shown self.now number }
     {
-        if 1 <= number && number as usize <= self.count {
-            Some(self.intervals[number as usize - 1])
+        if is_in_day(self.count, number) {
+            Some(self.record(number))
         } else {
             None
         }
@@ -71,11 +60,28 @@ impl Day {
         &self.intervals[0..self.count]
     }
 
-    pub(crate) fn put_terms(&mut self, place: usize, price: i32, net: i32, rounded: i32)
-        requires { (place < 100) × ((price_ok price ≡ true) × (net_ok net rounded ≡ true)) }
-        ensures { Recorded self.old place (with_terms (slice_index_or self.old.intervals place fresh) price net rounded) self.new }
+    // The place in the table of an interval of the day.
+    fn place(&self, interval: i32) -> usize
+        requires { in_day self.now.count interval ≡ true }
+        ensures is { result ≡ place_of interval }
+        ensures small { result < 100 }
     {
-        let changed = with_terms(self.intervals[place], price, net, rounded);
-        self.intervals[place] = changed;
+        interval as usize - 1
+    }
+
+    pub(crate) fn record(&self, interval: i32) -> Interval
+        requires { in_day self.now.count interval ≡ true }
+        ensures is { result ≡ record_of self.now interval }
+        ensures lawful { terms_lawful result ≡ true }
+    {
+        self.intervals[self.place(interval)]
+    }
+
+    pub(crate) fn put(&mut self, interval: i32, record: Interval)
+        requires { (in_day self.old.count interval ≡ true) × (terms_lawful «record» ≡ true) }
+        ensures { Recorded self.old (place_of interval) «record» self.new }
+    {
+        let place = self.place(interval);
+        self.intervals[place] = record;
     }
 }

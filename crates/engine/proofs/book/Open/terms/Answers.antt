@@ -1,25 +1,41 @@
-use Rattle.std.proofs.Common.{◌≡◌, ◌≤◌, ℤ, pos, Ok, sym, refl, arith, w32, to_z, of_z}
-use borrow.Author.Differences.{ints, abs_is}
+use Rattle.std.proofs.Common.{◌≡◌, arith, w32, ap, ◌∙◌, to_z, of_z}
+use borrow.Author.Differences.{ints}
 use Rattle.std.proofs.lemmas.Result.{err_from_is_err_and}
-use Rattle.market.specs.Bounds.{terms_table, terms_bounds}
-use Rattle.market.proofs.Facts.{tests_out, between_two}
+use Rattle.engine.specs.Days.{record_of}
+use Rattle.engine.proofs.Terming.{passed_terms}
 use Rattle.engine.proofs.book.Open.terms.Goals as goal
 
-pub returns-in_err-check_terms : goal.returns-in_err-check_terms
-returns-in_err-check_terms c =
+pub returns-in_err-check_terms-clause-answers : goal.returns-in_err-check_terms-clause-answers
+returns-in_err-check_terms-clause-answers c =
     let p = err_from_is_err_and c.from_residual.result c.from_residual.ensures.1 in
     let i : to_z w32 (of_z w32 c.args.interval) ≡ c.args.interval = omega (arith, ints) in
     let x : to_z w32 (of_z w32 c.args.price) ≡ c.args.price = omega (arith, ints) in
     let n : to_z w32 (of_z w32 c.args.net) ≡ c.args.net = omega (arith, ints) in
     let r : to_z w32 (of_z w32 c.args.rounded) ≡ c.args.rounded = omega (arith, ints) in
-    rw (p.1, p.2) record { answers = simp (i, x, n, r, c.count.ensures) at c.in_err-check_terms.ensures; leaves = refl }
+    rw (p.1, p.2) (simp (i, x, n, r, c.count.ensures) at c.in_err-check_terms.ensures)
 
-pub put_terms-requires : goal.put_terms-requires
-put_terms-requires c =
-    let n = c.count.result in
-    let i : ℤ = to_z w32 (of_z w32 c.args.interval) in
-    let e : terms_bounds n i (to_z w32 (of_z w32 c.args.price)) (to_z w32 (of_z w32 c.args.net)) (to_z w32 (of_z w32 c.args.rounded)) ≡ Ok tt = sym c.in_ok-check_terms.ensures in
-    let t = tests_out (terms_table n i (to_z w32 (of_z w32 c.args.price)) (to_z w32 (of_z w32 c.args.net)) (to_z w32 (of_z w32 c.args.rounded))) e in
-    let most : c.args.day.now.count ≤ 100 = c.args.day.now.sound.2 in
-    let within = between_two (pos 1) i (pos n) t.0 in
-    (omega (arith, ints, abs_is i, c.count.ensures), (t.1.0, t.1.1.0))
+pub record-record-requires : goal.record-record-requires
+record-record-requires c = (passed_terms _ _ (to_z w32 (of_z w32 c.args.interval)) (to_z w32 (of_z w32 c.args.price)) (to_z w32 (of_z w32 c.args.net)) (to_z w32 (of_z w32 c.args.rounded)) c.count.ensures c.in_ok-check_terms.ensures).0
+
+pub put-requires : goal.put-requires
+put-requires c =
+    passed_terms _ _ (to_z w32 (of_z w32 c.args.interval)) (to_z w32 (of_z w32 c.args.price)) (to_z w32 (of_z w32 c.args.net)) (to_z w32 (of_z w32 c.args.rounded)) c.count.ensures c.in_ok-check_terms.ensures
+
+pub returns-clause-answers : goal.returns-clause-answers
+returns-clause-answers c =
+    let i : to_z w32 (of_z w32 c.args.interval) ≡ c.args.interval = omega (arith, ints) in
+    let x : to_z w32 (of_z w32 c.args.price) ≡ c.args.price = omega (arith, ints) in
+    let n : to_z w32 (of_z w32 c.args.net) ≡ c.args.net = omega (arith, ints) in
+    let r : to_z w32 (of_z w32 c.args.rounded) ≡ c.args.rounded = omega (arith, ints) in
+    simp (i, x, n, r, c.count.ensures) at c.in_ok-check_terms.ensures
+
+pub returns-clause-leaves : goal.returns-clause-leaves
+returns-clause-leaves c =
+    let y = c.record-record.result in
+    let i : to_z w32 (of_z w32 c.args.interval) ≡ c.args.interval = omega (arith, ints) in
+    let x : to_z w32 (of_z w32 c.args.price) ≡ c.args.price = omega (arith, ints) in
+    let n : to_z w32 (of_z w32 c.args.net) ≡ c.args.net = omega (arith, ints) in
+    let r : to_z w32 (of_z w32 c.args.rounded) ≡ c.args.rounded = omega (arith, ints) in
+    let z : to_z w32 (of_z w32 y.remainder) ≡ y.remainder = omega (arith, ints) in
+    let is : y ≡ record_of c.args.day.now c.args.interval = c.record-record.ensures.is ∙ ap (record_of c.args.day.now) i in
+    rw (i, x, n, r, z, is) at c.put.ensures

@@ -4,7 +4,7 @@ use Rattle.engine.specs.Days.{records}
 use Rattle.engine.specs.Booking.{open_sum, open_worth}
 use Rattle.engine.proofs.day.Day.open_worth.Given as goal
 
-abbrev pub invariant-loop-place : goal.invariant-loop-place
-invariant-loop-place l =
-    ((l.sum +ℤ open_sum l.self.minutes (drop l.place (records l.self))) ≡ open_worth l.self)
-    × Bounded (6871947673600000 * l.place) l.sum
+abbrev pub invariant-loop-record : goal.invariant-loop-record
+invariant-loop-record l =
+    ((l.sum +ℤ open_sum l.self.minutes (drop l.record-index (records l.self))) ≡ open_worth l.self)
+    × Bounded (6871947673600000 * l.record-index) l.sum
