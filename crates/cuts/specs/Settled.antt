@@ -1,7 +1,8 @@
 -- The settled numbers of an interval: the rounded ones, cut in four stages.
-use Rattle.std.specs.Prelude.{◌≡◌, ℕ, ◌+◌, ◌≤◌, Bool, ◌&&◌, List, ◌++◌, map, ℤ, ◌+ℤ◌, ◌-ℤ◌, ◌==◌, nat_le, unsigned_abs}
+use Rattle.std.specs.Prelude.{◌≡◌, ℕ, ◌+◌, ◌≤◌, Bool, ◌&&◌, List, ◌++◌, length, map, ℤ, ◌+ℤ◌, ◌-ℤ◌, ◌==◌, nat_le, unsigned_abs}
 use Rattle.market.specs.declared.records.Order.{Order}
 use Rattle.market.specs.declared.records.Block.{Block}
+use Rattle.cuts.specs.declared.candidates.Lists.{Lists}
 use Rattle.cuts.specs.declared.gather.Filled.{Filled}
 use Rattle.cuts.specs.declared.gather.Filled.TheVariants.{Partly, Full}
 use Rattle.cuts.specs.declared.gather.Stage.{Stage}
@@ -81,3 +82,10 @@ pub record Sizes (o of b bf n : ℕ) : Type 0 where
 -- a place for each possible candidate
 abbrev pub lists_fit : ℕ → ℕ → ℕ → ℕ → Bool
 lists_fit o ol b bl = nat_le o ol && nat_le b bl
+
+-- the same lists, whatever they hold
+pub record SameLists (l l' : Lists) : Type 0 where
+  pub orders : l'.orders.ghost_name ≡ l.orders.ghost_name
+  pub blocks : l'.blocks.ghost_name ≡ l.blocks.ghost_name
+  pub order_count : length l'.orders.now ≡ length l.orders.now
+  pub block_count : length l'.blocks.now ≡ length l.blocks.now

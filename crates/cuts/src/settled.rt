@@ -4,7 +4,7 @@ ghost use Rattle.cuts.specs.Numbers.{rounded_numbers};
 ghost use Rattle.market.specs.Kinds.{orders, blocks};
 ghost use Rattle.cuts.specs.Stages.{last_step, stage_cut};
 ghost use Rattle.cuts.specs.SettledLaws.{Settles};
-ghost use Rattle.cuts.specs.Settled.{ranked_places, stage_of, two_stages, balance, gap_of, orders_cut, blocks_cut, settled_numbers, remainder_of, sizes_fit, lists_fit, Sizes};
+ghost use Rattle.cuts.specs.Settled.{SameLists, ranked_places, stage_of, two_stages, balance, gap_of, orders_cut, blocks_cut, settled_numbers, remainder_of, sizes_fit, lists_fit, Sizes};
 
 use crate::candidates::Lists;
 use crate::entries::Stands;
@@ -135,7 +135,8 @@ impl Rounding<'_> {
         requires lists { (length self.now.book.orders.now ≤ length lists.old.orders.now) × (length self.now.book.blocks.now ≤ length lists.old.blocks.now) }
         requires orders { take (length self.now.book.orders.now) numbers.old ≡ rounded_numbers orders self.now.interval self.now.book.orders.now self.now.fills.orders.now }
         requires blocks { take (length self.now.book.blocks.now) (drop (length self.now.book.orders.now) numbers.old) ≡ rounded_numbers blocks self.now.interval self.now.book.blocks.now self.now.fills.blocks.now }
-        ensures { numbers.new ≡ (orders_cut self.now.book.orders.now self.now.fills.orders.now self.now.interval gap).numbers ++ ((blocks_cut self.now.book.blocks.now self.now.fills.blocks.now self.now.interval gap (orders_cut self.now.book.orders.now self.now.fills.orders.now self.now.interval gap).left).numbers ++ drop (length self.now.book.orders.now + length self.now.book.blocks.now) numbers.old) }
+        ensures same { SameLists lists.old lists.new }
+        ensures numbers { numbers.new ≡ (orders_cut self.now.book.orders.now self.now.fills.orders.now self.now.interval gap).numbers ++ ((blocks_cut self.now.book.blocks.now self.now.fills.blocks.now self.now.interval gap (orders_cut self.now.book.orders.now self.now.fills.orders.now self.now.interval gap).left).numbers ++ drop (length self.now.book.orders.now + length self.now.book.blocks.now) numbers.old) }
     {
         let count = self.book.orders.len();
         let end = count + self.book.blocks.len();
@@ -171,6 +172,7 @@ impl Rounding<'_> {
     fn settle(&self, lists: &mut Lists<'_>, numbers: &mut [u32]) -> i64
         requires room { length self.now.book.orders.now + length self.now.book.blocks.now ≤ length numbers.old }
         requires lists { (length self.now.book.orders.now ≤ length lists.old.orders.now) × (length self.now.book.blocks.now ≤ length lists.old.blocks.now) }
+        ensures same { SameLists lists.old lists.new }
         ensures remainder { result ≡ remainder_of self.now.book.orders.now self.now.fills.orders.now self.now.book.blocks.now self.now.fills.blocks.now self.now.interval self.now.rounded }
         ensures numbers { numbers.new ≡ settled_numbers self.now.book.orders.now self.now.fills.orders.now self.now.book.blocks.now self.now.fills.blocks.now self.now.interval self.now.rounded ++ drop (length self.now.book.orders.now + length self.now.book.blocks.now) numbers.old }
     {
@@ -214,6 +216,7 @@ pub fn settled_numbers(
     lists: &mut Lists<'_>,
     numbers: &mut [u32],
 ) -> Option<i64>
+    ensures same { SameLists lists.old lists.new }
     ensures remainder { result ≡ (if sizes_fit (length book.entry.orders.now) (length fills.entry.orders.now) (length book.entry.blocks.now) (length fills.entry.blocks.now) (length numbers.old) && lists_fit (length book.entry.orders.now) (length lists.old.orders.now) (length book.entry.blocks.now) (length lists.old.blocks.now) then Some (remainder_of book.entry.orders.now fills.entry.orders.now book.entry.blocks.now fills.entry.blocks.now interval rounded) else None) }
     ensures numbers { numbers.new ≡ (if sizes_fit (length book.entry.orders.now) (length fills.entry.orders.now) (length book.entry.blocks.now) (length fills.entry.blocks.now) (length numbers.old) && lists_fit (length book.entry.orders.now) (length lists.old.orders.now) (length book.entry.blocks.now) (length lists.old.blocks.now) then settled_numbers book.entry.orders.now fills.entry.orders.now book.entry.blocks.now fills.entry.blocks.now interval rounded ++ drop (length book.entry.orders.now + length book.entry.blocks.now) numbers.old else numbers.old) }
     ensures refused { result ≡ None → (lists.new.orders.now ≡ lists.old.orders.now) × (lists.new.blocks.now ≡ lists.old.blocks.now) }

@@ -56,12 +56,6 @@ impl Task<'_> {
         ) {
             return Err(Refusal::Short);
         }
-        check_paper(
-            self.intervals,
-            self.book.orders,
-            self.fills.orders,
-            self.book.blocks,
-            self.fills.blocks,
-        )
+        check_paper(self.intervals, self.book, self.fills)
     }
 }

@@ -11,6 +11,7 @@ use super::refused::SettleRefused;
 use super::task::Task;
 use super::terms::Terms;
 use super::work::Work;
+use cuts::candidates::Lists;
 use cuts::settled::settled_numbers;
 use ledger::{Ledger, PostRefused};
 use market::records::{Book, Fills};
@@ -24,15 +25,16 @@ impl Task<'_> {
         ensures slices { SameSlices work.old work.new }
         ensures numbers { take (length self.entry.book.orders.now + length self.entry.book.blocks.now) work.new.numbers.now ≡ settle_numbers (settlement_of self.entry) }
     {
+        let mut lists = Lists {
+            orders: work.orders,
+            blocks: work.blocks,
+        };
         let steps = settled_numbers(
-            self.book.orders,
-            self.fills.orders,
-            self.book.blocks,
-            self.fills.blocks,
+            self.book,
+            self.fills,
             self.interval,
             self.terms.rounded,
-            work.orders,
-            work.blocks,
+            &mut lists,
             work.numbers,
         )
         .unwrap();

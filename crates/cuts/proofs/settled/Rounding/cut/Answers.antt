@@ -7,8 +7,8 @@ use Rattle.cuts.proofs.Parts.{both_written, second_kept}
 use Rattle.cuts.proofs.Cutting.{orders_cut_is, blocks_cut_is}
 use Rattle.cuts.proofs.settled.Rounding.cut.Goals as goal
 
-pub returns : goal.returns
-returns c =
+pub returns-clause-numbers : goal.returns-clause-numbers
+returns-clause-numbers c =
     let s = c.args.self.now in
     let os = s.book.orders.now in
     let fs = s.fills.orders.now in

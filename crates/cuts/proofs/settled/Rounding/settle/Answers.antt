@@ -49,8 +49,8 @@ returns c =
     past_parts (length os) (length bs) c.round-gap.new.numbers (rounded_numbers orders i os fs) (rounded_numbers blocks i bs gs) rest
     (length-rounded orders i os fs s.fits.order_fills) (length-rounded blocks i bs gs s.fits.block_fills) c.round-gap.ensures.numbers in
     let e : c.cut.new.numbers ≡ ys ++ (zs ++ rest) =
-    c.cut.ensures ∙ ap₂ (λ g x. (orders_cut os fs i g).numbers ++ ((blocks_cut bs gs i g (orders_cut os fs i g).left).numbers ++ x)) same past in
+    c.cut.ensures.numbers ∙ ap₂ (λ g x. (orders_cut os fs i g).numbers ++ ((blocks_cut bs gs i g (orders_cut os fs i g).left).numbers ++ x)) same past in
     let b = balance_is os bs c.cut.new.numbers ys zs rest r
     (length-orders_cut os fs i gap s.fits.order_fills) (length-blocks_cut bs gs i gap (orders_cut os fs i gap).left s.fits.block_fills) e in
     let fit : SFits w64 c.balance.result = search rules in
-    record { remainder = to_z-of_z w64 c.balance.result fit ∙ c.balance.ensures ∙ b; numbers = e ∙ sym (append_assoc ys zs rest) }
+    record { remainder = to_z-of_z w64 c.balance.result fit ∙ c.balance.ensures ∙ b; same = c.cut.ensures.same; numbers = e ∙ sym (append_assoc ys zs rest) }
