@@ -40,9 +40,15 @@ fn block(side: Side, first: i32, last: i32, limit: i32, quantity: i32, least: i3
     }
 }
 
-// The number and the place of a refusal, or 0 and 0 with the welfare.
-fn answer(verdict: Result<i64, Refusal>) -> (u32, u32, i64) {
-    match verdict {
+// The number and the place of the refusal of a paper, or 0 and 0 with its welfare.
+fn answer(
+    day: &[Interval],
+    orders: &[Order],
+    order_fills: &[u32],
+    blocks: &[Block],
+    block_fills: &[u32],
+) -> (u32, u32, i64) {
+    match verdict(day, orders, order_fills, blocks, block_fills) {
         Ok(welfare) => (0, 0, welfare),
         Err(refusal) => (refusal.number(), refusal.place(), 0),
     }
@@ -64,28 +70,28 @@ fn order_prices(rt: HostRuntime) {
         (Side::Buy, 5_001, 1, -1, 14),
         (Side::Buy, 5_000, 1, -1, 0),
     ] {
-        let verdict = verdict(
+        let (number, _, _) = answer(
             &[interval(price, net)],
             &[order(side, 5_000, 100)],
             &[fill],
             &[],
             &[],
         );
-        assert_eq!(rt; answer(verdict).0, refused);
+        assert_eq!(rt; number, refused);
     }
 }
 
 #[test]
 fn block_percentages(rt: HostRuntime) {
     for (fill, refused) in [(349, 16), (350, 0), (0, 0), (1_000, 0), (1_001, 13)] {
-        let verdict = verdict(
+        let (number, _, _) = answer(
             &[interval(0, fill)],
             &[],
             &[],
             &[block(Side::Sell, 1, 1, 0, 10, 35)],
             &[fill as u32],
         );
-        assert_eq!(rt; answer(verdict).0, refused);
+        assert_eq!(rt; number, refused);
     }
 }
 
@@ -102,13 +108,13 @@ fn block_prices(rt: HostRuntime) {
             Side::Buy => -1_000,
         };
         let day = [interval(3_900, net), interval(second, net)];
-        let (number, place, welfare) = answer(verdict(
+        let (number, place, welfare) = answer(
             &day,
             &[],
             &[],
             &[block(side, 1, 2, 4_000, 10, 35)],
             &[1_000],
-        ));
+        );
         assert_eq!(rt;
             (number, place),
             (refused, if refused == 0 { 0 } else { 1 })
@@ -133,18 +139,18 @@ fn first_fault(rt: HostRuntime) {
         ([9_000, 5_001, 12_001], (13, 2, 0)),
         ([9_000, u32::MAX, u32::MAX], (13, 2, 0)),
     ] {
-        assert_eq!(rt; answer(verdict(&day, &orders, &fills, &[], &[])), expected);
+        assert_eq!(rt; answer(&day, &orders, &fills, &[], &[]), expected);
     }
     assert_eq!(rt;
-        answer(verdict(&day, &orders, &[10_000, 2_350], &[], &[])),
+        answer(&day, &orders, &[10_000, 2_350], &[], &[]),
         (11, 0, 0)
     );
     assert_eq!(rt;
-        answer(verdict(&day, &orders, &[10_000, 2_350, 12_000, 0], &[], &[])),
+        answer(&day, &orders, &[10_000, 2_350, 12_000, 0], &[], &[]),
         (11, 0, 0)
     );
     assert_eq!(rt;
-        answer(verdict(&day, &orders, &[10_000, 2_350, 12_000], &[], &[0])),
+        answer(&day, &orders, &[10_000, 2_350, 12_000], &[], &[0]),
         (11, 0, 0)
     );
 }
@@ -153,7 +159,7 @@ fn first_fault(rt: HostRuntime) {
 fn four_entries(third: Block, fourth: Block, fills: &[u32]) -> (u32, u32, i64) {
     let day = [interval(0, 0), interval(0, 1)];
     let orders = [order(Side::Sell, 0, 1), order(Side::Buy, 0, 1)];
-    answer(verdict(&day, &orders, &[100, 100], &[third, fourth], fills))
+    answer(&day, &orders, &[100, 100], &[third, fourth], fills)
 }
 
 #[test]
@@ -178,24 +184,21 @@ fn widest_records(rt: HostRuntime) {
         let day = [interval(extreme, extreme)];
         let lawful = order(Side::Sell, 0, 1);
         let wide = Order {
-            side: Side::Buy,
             interval: extreme,
-            limit: extreme,
-            quantity: extreme,
-            market: Market::Spot,
             stamp: extreme,
             account: extreme,
+            ..order(Side::Buy, extreme, extreme)
         };
         assert_eq!(rt;
-            answer(verdict(&day, &[lawful, wide], &[0, u32::MAX], &[], &[])),
+            answer(&day, &[lawful, wide], &[0, u32::MAX], &[], &[]),
             (12, 2, 0)
         );
         let broad = block(Side::Buy, extreme, extreme, extreme, extreme, extreme);
         assert_eq!(rt;
-            answer(verdict(&day, &[lawful], &[0], &[broad], &[u32::MAX])),
+            answer(&day, &[lawful], &[0], &[broad], &[u32::MAX]),
             (12, 2, 0)
         );
-        let empty = answer(verdict(&day, &[], &[], &[], &[]));
+        let empty = answer(&day, &[], &[], &[], &[]);
         assert_eq!(rt; empty, (18, 1, 0));
     }
 }
@@ -204,7 +207,7 @@ fn widest_records(rt: HostRuntime) {
 fn worth(orders: &[Order], fills: &[u32]) -> i64 {
     let mut sum: i64 = 0;
     for (order, fill) in orders.iter().zip(fills) {
-        let value = (order.limit as i64).saturating_mul(*fill as i64);
+        let value = i64::from(order.limit).saturating_mul(i64::from(*fill));
         sum = match order.side {
             Side::Sell => sum.saturating_sub(value),
             Side::Buy => sum.saturating_add(value),
@@ -225,18 +228,12 @@ fn no_balanced_paper_does_better(rt: HostRuntime) {
     let first = [10_000, 2_350, 0, 12_000];
     let second = [10_000, 1_000, 1_350, 12_000];
     let third = [9_000, 3_350, 0, 12_000];
+    assert_eq!(rt; answer(&day, &orders, &first, &[], &[]), (0, 0, 20_250_000));
     assert_eq!(rt;
-        answer(verdict(&day, &orders, &first, &[], &[])),
+        answer(&day, &orders, &second, &[], &[]),
         (0, 0, 20_250_000)
     );
-    assert_eq!(rt;
-        answer(verdict(&day, &orders, &second, &[], &[])),
-        (0, 0, 20_250_000)
-    );
-    assert_eq!(rt;
-        answer(verdict(&day, &orders, &third, &[], &[])),
-        (15, 1, 0)
-    );
+    assert_eq!(rt; answer(&day, &orders, &third, &[], &[]), (15, 1, 0));
     assert_eq!(rt; worth(&orders, &second), 20_250_000);
     assert_eq!(rt; worth(&orders, &third), 19_250_000);
 }
