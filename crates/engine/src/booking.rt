@@ -19,7 +19,7 @@ impl Day {
         ensures { result ≡ booked self.now remainder.now }
     {
         let terms = self.terms_of(self.record(remainder.interval));
-        -terms.worth(remainder.steps)
+        terms.owed(remainder.steps)
     }
 
     /// Posts minus the worth of a remainder to account 1 and closes its interval: 22 where the day does not show the interval out

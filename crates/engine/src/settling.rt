@@ -1,14 +1,14 @@
 // Settling an interval on a passed book.
 ghost use Rattle.std.specs.Prelude.{◌≡◌, length, take, true, Ok, Err, IfOk, OnOk, IfErr};
 ghost use Rattle.market.specs.Bounds.{in_day};
-ghost use Rattle.engine.specs.Settling.{ready, lengths_of, Settling, Moves};
+ghost use Rattle.entries.specs.Settles.{lengths, SameSlices};
+ghost use Rattle.engine.specs.Settling.{ready, Settling, Moves};
 
 use super::book::Passed;
 use super::day::Day;
 use super::refusal::Refusal;
 use super::remainder::Remainder;
-use cuts::candidates::{BlockCandidate, OrderCandidate};
-use entries::settle_interval;
+use entries::{Work, settle_interval};
 use ledger::Ledger;
 use market::records::{Book, Fills, Mark};
 use market::refusal::Refusal as MarketRefusal;
@@ -35,23 +35,22 @@ impl Passed {
     ///
     /// The settled numbers of the interval's entries go into the sheet, their amounts to the accounts of the entries, plus for sells
     /// and minus for buys, and last minus the amount of the rounded net position to account 0. Refused with 3; 19 where the interval
-    /// is not unsettled; 11, 12, 13; 20 or 21 of the first refused posting: then all is as it was. The working slices (`numbers`,
-    /// `order_list`, `block_list`) may end with any contents.
+    /// is not unsettled; 11, 12, 13; 20 or 21 of the first refused posting: then all is as it was. The working slices may end with any
+    /// contents.
     pub fn settle<L: Ledger>(
         &self,
         day: &mut Day,
         memory: Book<'_>,
         fills: Fills<'_>,
         sheet: &mut [u32],
-        numbers: &mut [u32],
-        order_list: &mut [OrderCandidate],
-        block_list: &mut [BlockCandidate],
+        work: &mut Work<'_>,
         ledger: &mut L,
         interval: i32,
     ) -> Result<Remainder, Refusal>
-        ensures settles { Settling self.now day.old memory.entry.orders.now fills.entry.orders.now memory.entry.blocks.now fills.entry.blocks.now interval (lengths_of (length sheet.old) (length numbers.old) (length order_list.old) (length block_list.old)) (L.Accounts.model ledger.old) sheet.old result day.new sheet.new (L.Accounts.model ledger.new) }
+        ensures settles { Settling self.now day.old memory.entry.orders.now fills.entry.orders.now memory.entry.blocks.now fills.entry.blocks.now interval (lengths sheet.old work.old) (L.Accounts.model ledger.old) sheet.old result day.new sheet.new (L.Accounts.model ledger.new) }
         ensures moves { Moves day.old interval result (L.Accounts.model ledger.old) (L.Accounts.model ledger.new) }
         ensures keeps { L.Ledger.kept ledger.old ledger.new }
+        ensures slices { SameSlices work.old work.new }
     {
         let book = self.ready(day, memory, interval)?;
         let terms = day.terms_of(day.record(interval));
@@ -62,9 +61,7 @@ impl Passed {
             interval as u32,
             terms,
             sheet,
-            numbers,
-            order_list,
-            block_list,
+            work,
             ledger,
         )?;
         day.put_state(interval, Mark::Out, steps);

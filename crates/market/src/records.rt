@@ -2,11 +2,22 @@
 ghost use Rattle.std.specs.Prelude.{◌≡◌};
 ghost use Rattle.market.specs.Signed.{signed, Within};
 
+use std::fmt;
+
 /// Which way an order or a block trades.
 #[derive(Clone, Copy, PartialEq, Eq, Debug)]
 pub enum Side {
     Sell,
     Buy,
+}
+
+impl fmt::Display for Side {
+    fn fmt<W: fmt::Write>(&self, f: &mut fmt::Formatter<W>) -> fmt::Result {
+        f.write_str(match self {
+            Side::Sell => "sell",
+            Side::Buy => "buy",
+        })
+    }
 }
 
 impl Side {

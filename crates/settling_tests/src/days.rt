@@ -5,23 +5,11 @@ use engine::book::{Closed, Open, Pass, Passed};
 use engine::day::Day;
 use engine::refusal::Refusal;
 use engine::remainder::Returned;
+use entries::Work;
 use ledger::Ledger;
 use market::records::{Book, Fills, Market, Order, Side};
 use market::refusal::Refusal as MarketRefusal;
 use std::test::Fail;
-
-pub(crate) const NO_BLOCK: BlockCandidate = BlockCandidate {
-    steps: 0,
-    limit: 0,
-    stamp: 0,
-    account: 0,
-    entry: 0,
-};
-
-pub(crate) const NO_ORDER: OrderCandidate = OrderCandidate {
-    market: Market::Spot,
-    rest: NO_BLOCK,
-};
 
 pub(crate) const FILLS: [u32; 3] = [10_000, 2_350, 12_000];
 
@@ -115,17 +103,12 @@ pub(crate) fn settle_and_note<L: Ledger>(
     ledger: &mut L,
     interval: i32,
 ) -> Result<i32, Refusal> {
-    let remainder = passed.settle(
-        day,
-        book,
-        fills,
-        sheet,
-        &mut [0; 3],
-        &mut [NO_ORDER; 3],
-        &mut [NO_BLOCK; 3],
-        ledger,
-        interval,
-    )?;
+    let mut work = Work {
+        numbers: &mut [0; 3],
+        orders: &mut [OrderCandidate::BLANK; 3],
+        blocks: &mut [BlockCandidate::BLANK; 3],
+    };
+    let remainder = passed.settle(day, book, fills, sheet, &mut work, ledger, interval)?;
     let steps = remainder.steps();
     match day.note(remainder) {
         Ok(()) => Ok(steps),
@@ -145,17 +128,12 @@ pub(crate) fn offered_elsewhere<L: Ledger>(
 ) -> Result<(u32, u32), Refusal> {
     let orders = orders(price);
     let (book, fills) = only_orders(&orders, &FILLS);
-    let remainder = passed.settle(
-        day,
-        book,
-        fills,
-        sheet,
-        &mut [0; 3],
-        &mut [NO_ORDER; 3],
-        &mut [NO_BLOCK; 3],
-        ledger,
-        1,
-    )?;
+    let mut work = Work {
+        numbers: &mut [0; 3],
+        orders: &mut [OrderCandidate::BLANK; 3],
+        blocks: &mut [BlockCandidate::BLANK; 3],
+    };
+    let remainder = passed.settle(day, book, fills, sheet, &mut work, ledger, 1)?;
     let Err(returned) = other.book(ledger, remainder) else {
         return Ok((0, 0));
     };

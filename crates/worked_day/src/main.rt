@@ -57,13 +57,6 @@ const FIRST_PAPER: [u32; 3] = [9_000, 3_350, 12_000];
 
 const SECOND_PAPER: [u32; 3] = [10_000, 2_350, 12_000];
 
-fn trade(side: Side) -> &'static str {
-    match side {
-        Side::Sell => "sell",
-        Side::Buy => "buy",
-    }
-}
-
 fn enter_book(
     rt: &HostRuntime,
     day: &Day,
@@ -73,14 +66,14 @@ fn enter_book(
     for order in BOOK {
         let entry = book.enter_order(day, memory, order)?;
         let Order {
+            side,
             quantity,
             limit,
             account,
             ..
         } = order;
-        let trade = trade(order.side);
         println!(rt;
-            "Entry {entry}: {trade} {quantity} steps of 0.1 MW, limit {limit} cents per MWh, account {account}."
+            "Entry {entry}: {side} {quantity} steps of 0.1 MW, limit {limit} cents per MWh, account {account}."
         )?;
     }
     Ok(())
@@ -104,11 +97,11 @@ fn judge(
     rt: &HostRuntime,
     closed: Closed,
     day: &Day,
-    orders: &[Order],
-    fills: &[u32],
+    book: Book<'_>,
+    fills: Fills<'_>,
 ) -> anyhow::Result<Result<Passed, Closed>> {
-    println!(rt; "A paper is judged, with these fills in thousandths of a MW: {fills:?}.")?;
-    let (book, fills) = paper(orders, fills);
+    let filled = fills.orders;
+    println!(rt; "A paper is judged, with these fills in thousandths of a MW: {filled:?}.")?;
     match closed.judge(day, book, fills) {
         Ok(Pass { book, welfare }) => {
             println!(rt; "It passes with welfare {welfare}.")?;
@@ -132,16 +125,18 @@ fn run(rt: &HostRuntime) -> anyhow::Result<()> {
     enter_book(rt, &day, &mut book, &mut memory)?;
     let closed = book.close();
     println!(rt; "The book is closed.")?;
-    let Err(closed) = judge(rt, closed, &day, &memory, &FIRST_PAPER)? else {
+    let (book, fills) = paper(&memory, &FIRST_PAPER);
+    let Err(closed) = judge(rt, closed, &day, book, fills)? else {
         return Err(anyhow!("the first paper should have been refused"));
     };
-    let second = judge(rt, closed, &day, &memory, &SECOND_PAPER)?;
-    show_cuts(rt, &memory, &SECOND_PAPER, ROUNDED)?;
+    let (book, fills) = paper(&memory, &SECOND_PAPER);
+    let second = judge(rt, closed, &day, book, fills)?;
+    show_cuts(rt, book, fills, ROUNDED)?;
     show_accounts(rt)?;
     let Ok(passed) = second else {
         return Err(anyhow!("the second paper should have passed"));
     };
-    show_settling(rt, &passed, &mut day, &memory, &SECOND_PAPER)
+    show_settling(rt, &passed, &mut day, book, fills)
 }
 
 fn main(rt: HostRuntime) -> anyhow::Result<()> {

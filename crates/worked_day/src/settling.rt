@@ -1,13 +1,13 @@
 // Settling the interval of the worked day, and booking its remainder.
 use super::accounts::{BORDER, FIRMS, show_balances};
-use super::cutting::{NO_BLOCK, NO_ORDER};
 use cuts::candidates::{BlockCandidate, OrderCandidate};
 use engine::book::Passed;
 use engine::day::Day;
 use engine::remainder::Returned;
+use entries::Work;
 use ledger::{Accounts, Ledger};
 use ledgers::{Joined, Operator, Table};
-use market::records::{Book, Fills, Order};
+use market::records::{Book, Fills};
 
 fn tell<L: Accounts>(rt: &HostRuntime, day: &Day, ledger: &L) -> anyhow::Result<()> {
     let open = day.open_worth();
@@ -24,12 +24,10 @@ fn settle_and_book<L: Ledger>(
     book: Book<'_>,
     fills: Fills<'_>,
     sheet: &mut [u32],
-    numbers: &mut [u32],
-    orders: &mut [OrderCandidate],
-    blocks: &mut [BlockCandidate],
+    work: &mut Work<'_>,
     ledger: &mut L,
 ) -> anyhow::Result<()> {
-    let remainder = passed.settle(day, book, fills, sheet, numbers, orders, blocks, ledger, 1)?;
+    let remainder = passed.settle(day, book, fills, sheet, work, ledger, 1)?;
     let steps = remainder.steps();
     let told = tell(rt, day, ledger);
     let refused = match day.book(ledger, remainder) {
@@ -54,15 +52,20 @@ pub(crate) fn show_settling(
     rt: &HostRuntime,
     passed: &Passed,
     day: &mut Day,
-    orders: &[Order],
-    fills: &[u32],
+    book: Book<'_>,
+    fills: Fills<'_>,
 ) -> anyhow::Result<()> {
     let heap = rt.alloc();
-    let entries = orders.len();
+    let entries = book.orders.len();
     let mut sheet = vec![in heap; 0; entries]?;
     let mut numbers = vec![in heap; 0; entries]?;
-    let mut ranked = vec![in heap; NO_ORDER; entries]?;
-    let mut blocks = vec![in heap; NO_BLOCK; entries]?;
+    let mut orders = vec![in heap; OrderCandidate::BLANK; entries]?;
+    let mut blocks = vec![in heap; BlockCandidate::BLANK; entries]?;
+    let mut work = Work {
+        numbers: &mut numbers,
+        orders: &mut orders,
+        blocks: &mut blocks,
+    };
     let mut firms = FIRMS;
     let mut ledger = Joined {
         first: Operator::new(),
@@ -76,18 +79,10 @@ pub(crate) fn show_settling(
         rt,
         passed,
         day,
-        Book {
-            orders,
-            blocks: &[],
-        },
-        Fills {
-            orders: fills,
-            blocks: &[],
-        },
+        book,
+        fills,
         &mut sheet,
-        &mut numbers,
-        &mut ranked,
-        &mut blocks,
+        &mut work,
         &mut ledger,
     )?;
     println!(rt; "The sheet holds {sheet:?} steps.")?;

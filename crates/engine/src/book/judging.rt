@@ -20,13 +20,7 @@ impl Closed {
         if fills.orders.len() != self.counts.orders || fills.blocks.len() != self.counts.blocks {
             return Err(Refusal::Short);
         }
-        verdict(
-            day.intervals(),
-            book.orders,
-            fills.orders,
-            book.blocks,
-            fills.blocks,
-        )
+        verdict(day.intervals(), book, fills)
     }
 
     /// Judges a paper: the passed book and the welfare, or the first rule that is broken, with the closed book back.

@@ -1,11 +1,12 @@
-use Rattle.std.proofs.Common.{◌≡◌, length, ℤ, nat_abs, Ok, sym, ap, ◌∙◌, arith, w32, SFits, to_z, of_z, rules}
+use Rattle.std.proofs.Common.{◌≡◌, ℤ, nat_abs, Ok, sym, ap, ◌∙◌, arith, w32, SFits, to_z, of_z, rules}
 use borrow.Author.Differences.{ints}
 use Rattle.std.proofs.lemmas.Int.{to_z-of_z}
 use Rattle.std.proofs.lemmas.Result.{err_from_is_err_and}
 use Rattle.entries.specs.Amounts.{Conditions, conditions}
 use Rattle.engine.specs.Days.{conditions_in, conditions_of}
-use Rattle.engine.specs.Settling.{ready, lengths_of}
-use Rattle.engine.proofs.Settlings.{refused, settled}
+use Rattle.entries.specs.Settles.{lengths}
+use Rattle.engine.specs.Settling.{ready}
+use Rattle.engine.proofs.Settlings.{refused, settled, same_asked}
 use Rattle.engine.proofs.Shown.{number_fits}
 use Rattle.engine.proofs.book.Passed.settle.Goals as goal
 
@@ -20,7 +21,7 @@ returns-in_err-steps-clause-settles g c =
     let bs = c.args.memory.blocks.now in
     let i : ℤ = c.args.interval in
     let s = c.args.sheet.now in
-    let l = lengths_of (length s) (length c.args.numbers.now) (length c.args.order_list.now) (length c.args.block_list.now) in
+    let l = lengths s c.args.work.now in
     let book = c.in_ok-book.book in
     let t : Conditions = conditions c.terms_of-terms.result in
     let at : to_z w32 (of_z w32 i) ≡ i = omega (arith, ints) in
@@ -28,9 +29,10 @@ returns-in_err-steps-clause-settles g c =
     let et : t ≡ conditions_of d i = c.terms_of-terms.ensures ∙ ap (conditions_in d.minutes) c.record.ensures.is ∙ ap (conditions_of d) at in
     let call = c.settle_interval.ensures in
     let r = err_from_is_err_and c.from_residual-in_err-steps.result c.from_residual-in_err-steps.ensures.1 in
+    let e = same_asked p d os c.args.fills.orders.now bs c.args.fills.blocks.now i book.orders.now book.blocks.now c.count.result (nat_abs (to_z w32 (of_z w32 i))) t
+    c.in_ok-book.ensures.orders c.in_ok-book.ensures.blocks c.count.ensures (ap nat_abs at) et in
     rw (r.1, r.2) (
-    refused p d os c.args.fills.orders.now bs c.args.fills.blocks.now i l book.orders.now book.blocks.now c.count.result (nat_abs (to_z w32 (of_z w32 i))) t
-    c.in_ok-book.ensures.orders c.in_ok-book.ensures.blocks c.count.ensures (ap nat_abs at) et
+    refused p d os c.args.fills.orders.now bs c.args.fills.blocks.now i l _ e
     (g.L.Accounts.model c.args.ledger.now) (g.L.Accounts.model c.settle_interval.new.ledger) s c.settle_interval.new.sheet
     c.in_err-steps.field-0.0 ok c.in_err-steps.ensures.answers call.writes call.posts
     )
@@ -43,7 +45,7 @@ returns-clause-settles g c =
     let bs = c.args.memory.blocks.now in
     let i : ℤ = c.args.interval in
     let s = c.args.sheet.now in
-    let l = lengths_of (length s) (length c.args.numbers.now) (length c.args.order_list.now) (length c.args.block_list.now) in
+    let l = lengths s c.args.work.now in
     let book = c.in_ok-book.book in
     let t : Conditions = conditions c.terms_of-terms.result in
     let at : to_z w32 (of_z w32 i) ≡ i = omega (arith, ints) in
@@ -53,8 +55,9 @@ returns-clause-settles g c =
     let y : ℤ = c.in_ok-steps.steps in
     let w : SFits w32 y = search rules in
     let fits : to_z w32 (of_z w32 y) ≡ y = to_z-of_z w32 y w in
-    settled p d os c.args.fills.orders.now bs c.args.fills.blocks.now i l book.orders.now book.blocks.now c.count.result (nat_abs (to_z w32 (of_z w32 i))) t
-    c.in_ok-book.ensures.orders c.in_ok-book.ensures.blocks c.count.ensures (ap nat_abs at) et
+    let e = same_asked p d os c.args.fills.orders.now bs c.args.fills.blocks.now i book.orders.now book.blocks.now c.count.result (nat_abs (to_z w32 (of_z w32 i))) t
+    c.in_ok-book.ensures.orders c.in_ok-book.ensures.blocks c.count.ensures (ap nat_abs at) et in
+    settled p d os c.args.fills.orders.now bs c.args.fills.blocks.now i l _ e
     (g.L.Accounts.model c.args.ledger.now) (g.L.Accounts.model c.settle_interval.new.ledger) s c.settle_interval.new.sheet
     y c.put_state.new.self (record { interval = to_z w32 (of_z w32 i); steps = to_z w32 (of_z w32 y) }) ok c.in_ok-steps.ensures.answers call.writes call.posts
     (record { interval = at; amount = fits }) (rw (at, fits) at c.put_state.ensures)
