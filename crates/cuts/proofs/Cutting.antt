@@ -1,14 +1,13 @@
 -- What the stages of a kind leave, from what the code has at hand.
-use Rattle.std.proofs.Common.{◌≡◌, ℕ, ◌+◌, true, ◌&&◌, eqb, leb, List, ◌++◌, length, take, drop, ℤ, nat_abs, refl, ◌∙◌, ap₂}
+use Rattle.std.proofs.Common.{◌≡◌, ℕ, ◌+◌, List, ◌++◌, length, take, drop, ℤ, nat_abs, refl, ◌∙◌, ap₂}
 use Rattle.market.specs.declared.records.Order.{Order}
 use Rattle.market.specs.declared.records.Block.{Block}
 use Rattle.market.specs.Kinds.{orders, blocks}
 use Rattle.cuts.specs.Numbers.{rounded_numbers}
 use Rattle.cuts.specs.declared.gather.Filled.{Filled}
 use Rattle.cuts.specs.Stages.{Rule, last_step}
-use Rattle.cuts.specs.Settled.{two_stages, order_places, block_places, stage_of, gap_of, orders_cut, blocks_cut, settled_orders, settled_blocks, settled_numbers, balance, sizes_fit, Sizes}
+use Rattle.cuts.specs.Settled.{two_stages, order_places, block_places, stage_of, gap_of, orders_cut, blocks_cut, settled_orders, settled_blocks, settled_numbers, balance}
 use Rattle.std.proofs.lemmas.List.{length-append}
-use Rattle.std.proofs.lemmas.Bool.{and_parts, leb-true, eqb-true}
 use Rattle.cuts.proofs.Parts.{first_part, second_part}
 use Rattle.cuts.proofs.Walks.{length-rounded}
 use Rattle.cuts.proofs.Turns.{length-turns}
@@ -27,14 +26,6 @@ pub balance_is : (os : List Order) (bs : List Block) (xs ns ms rest : List ℕ) 
     → balance os bs (take (length os) xs) (take (length bs) (drop (length os) xs)) r ≡ balance os bs ns ms r
 balance_is os bs xs ns ms rest r f g h =
     ap₂ (λ u v. balance os bs u v r) (first_part (length os) (length bs) xs ns ms rest f g h) (second_part (length os) (length bs) xs ns ms rest f g h)
-
-pub sizes_from : (o of b bf n : ℕ) → sizes_fit o of b bf n ≡ true → Sizes o of b bf n
-sizes_from o of b bf n h =
-    let x = and_parts ((leb o 1024 && leb b 64) && (eqb of o && eqb bf b)) (leb (o + b) n) h in
-    let y = and_parts (leb o 1024 && leb b 64) (eqb of o && eqb bf b) x.0 in
-    let few = and_parts (leb o 1024) (leb b 64) y.0 in
-    let fills = and_parts (eqb of o) (eqb bf b) y.1 in
-    record { orders = leb-true o 1024 few.0; blocks = leb-true b 64 few.1; order_fills = eqb-true of o fills.0; block_fills = eqb-true bf b fills.1; room = leb-true (o + b) n x.1 }
 
 length_stages : (rule : Rule) (places : Filled → List ℕ) (ns : List ℕ) (g : ℕ) → length (two_stages rule places ns g).numbers ≡ length ns
 length_stages rule places ns g = length-turns rule _ 0 _ _ ∙ length-turns rule _ 0 ns g

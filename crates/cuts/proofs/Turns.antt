@@ -51,9 +51,6 @@ module _ (ps : List ℕ) (t : ℕ) (ns after : List ℕ) (g : ℕ) where
       let o : leb (get_or (held ps ns) t 0) 1 ≡ true = grind (arith, nat_tests) in
       rw e (turns_over last_step ps t ns g o)
 
-pub cut_met : (rule : Rule) (ps : List ℕ) (t : ℕ) (ns : List ℕ) (g : ℕ) → g ≡ 0 → turns rule ps t ns g ≡ record { numbers = ns; left = g }
-cut_met rule ps t ns g e = rw e refl
-
 pub length-turns : (rule : Rule) (ps : List ℕ) (t : ℕ) (ns : List ℕ) (g : ℕ) → length (turns rule ps t ns g).numbers ≡ length ns
 length-turns rule ps t ns zero = refl
 length-turns rule ps t ns (suc g) =

@@ -1,5 +1,5 @@
 -- One step of a loop over entries with their fills or numbers: what is left still gives the whole.
-use Rattle.std.proofs.Common.{Iter, Option, Some, ◌≡◌, ℕ, zero, suc, ◌+◌, ◌*◌, ◌<◌, ◌≤◌, min, Bool, true, false, cond, List, [], ◌∷◌, ◌++◌, length, get_or, take, drop, set, pos, ◌+ℤ◌, nat_abs, fold, sym, refl, ap, ◌∙◌, ap₂, add-mul, arith}
+use Rattle.std.proofs.Common.{Iter, Option, Some, ◌≡◌, ℕ, zero, suc, ◌+◌, ◌*◌, ◌<◌, ◌≤◌, min, Bool, true, false, cond, List, [], ◌∷◌, ◌++◌, length, get_or, take, drop, set, ◌+ℤ◌, nat_abs, fold, sym, refl, ap, ◌∙◌, ap₂, add-mul, arith}
 use borrow.Author.Differences.{ints}
 use Rattle.market.specs.declared.records.Side.{Side}
 use Rattle.market.specs.declared.records.Side.TheVariants.{Sell, Buy}
@@ -15,7 +15,7 @@ use Rattle.std.proofs.lemmas.Iterator.Consumers.{YieldsList-from_enumerate, Yiel
 use Rattle.std.specs.List.{zip, enumerate_from}
 use Rattle.std.proofs.lemmas.Slice.Zip.{length-zip, get_or-zip}
 use Rattle.std.proofs.lemmas.List.FromFn.{length-enumerate_from, get_or-enumerate_from}
-use Rattle.std.proofs.lemmas.List.{get_or_default, drop_more, drop_all, take_more_set, append_assoc, append-nil, take_all}
+use Rattle.std.proofs.lemmas.List.{get_or_default, drop_more, take_more_set, append_assoc}
 use Rattle.std.proofs.lemmas.Bool.{cond-true, cond-false, cond_both}
 use Rattle.cuts.specs.declared.gather.Stage.{Stage}
 use Rattle.market.specs.Kinds.{Kind}
@@ -81,16 +81,6 @@ module _ {X : Type 0} (kind : Kind X) (xs : List X) (fs : List ℕ) (i : ℕ) wh
     pub candidates_more : {C : Type 0} (stands : X → ℕ → ℕ → C) (s : Stage) → candidates kind stands s (drop i xs) (drop i fs) i
         ≡ cond (eligible kind s x f) (stands x (nearest f) i ∷ candidates kind stands s (drop (i + 1) xs) (drop (i + 1) fs) (i + 1)) (candidates kind stands s (drop (i + 1) xs) (drop (i + 1) fs) (i + 1))
     candidates_more stands s = ap₂ (λ ys gs. candidates kind stands s ys gs i) entries_more fills_more
-
-  module _ (past : length xs ≤ i) where
-    pub net_all : net kind (drop i xs) (drop i fs) ≡ pos 0
-    net_all = ap (λ ys. net kind ys (drop i fs)) (drop_all i xs past)
-
-    pub rounded_all : (t : ℕ) (ns : List ℕ) → length ns ≤ i → take i ns ++ rounded_numbers kind t (drop i xs) (drop i fs) ≡ ns
-    rounded_all t ns h = ap₂ (λ l ys. l ++ rounded_numbers kind t ys (drop i fs)) (take_all i ns h) (drop_all i xs past) ∙ append-nil ns
-
-    pub candidates_all : {C : Type 0} (stands : X → ℕ → ℕ → C) (s : Stage) → candidates kind stands s (drop i xs) (drop i fs) i ≡ []
-    candidates_all stands s = ap (λ ys. candidates kind stands s ys (drop i fs) i) (drop_all i xs past)
 
 -- one entry more in the list in rank order
 module _ {X C : Type 0} (kind : Kind X) (stands : X → ℕ → ℕ → C) (s : Stage) (before : C → C → Bool) (xs : List X) (fs : List ℕ) (i : ℕ) (x : X) (f : ℕ)

@@ -17,7 +17,7 @@ fn number<E: Entry>(interval: u32, entry: &E, fill: u32) -> u32
     }
 }
 
-// Writes the rounded number of each entry.
+// Writes the rounded number of each entry, by index: after a loop over `iter_mut` a proof knows the length alone, and no element.
 pub(crate) fn write_rounded<E: Entry>(paper: &Paper<'_, E>, interval: u32, numbers: &mut [u32])
     requires { length numbers.old ≡ length paper.now.entries.now }
     ensures { numbers.new ≡ rounded_numbers E.kind interval paper.now.entries.now paper.now.fills.now }
@@ -27,7 +27,7 @@ pub(crate) fn write_rounded<E: Entry>(paper: &Paper<'_, E>, interval: u32, numbe
     }
 }
 
-// Sells less buys.
+// Sells less buys. The sum has signs, so that no bound on `sum` is known: a loop keeps it.
 pub(crate) fn net<E: Entry>(entries: &[E], numbers: &[u32]) -> i64
     requires same { length numbers.now ≡ length entries.now }
     requires few { length entries.now ≤ 1024 }

@@ -9,6 +9,7 @@ use crate::rank::Candidate;
 const LAST: u32 = 1;
 
 // The turn of one candidate: it loses a step, unless it holds no more than its last; false where it loses none.
+// The write is by index: after `get_mut` a proof knows the length of the slice alone, and no element.
 fn take_turn<C: Candidate>(list: &[C], numbers: &mut [u32], turn: usize) -> bool
     ensures loses { result ≡ nat_lt 1 (slice_index (held (map C.place list.now) numbers.old) turn) }
     ensures numbers { numbers.new ≡ (if result then one_less numbers.old (slice_index (map C.place list.now) turn) else numbers.old) }
@@ -33,7 +34,7 @@ fn next_turn(count: usize, turn: usize) -> usize
     if turn + 1 < count { turn + 1 } else { 0 }
 }
 
-// The turns of a stage to its end.
+// The turns of a stage to its end. They go round the list until the gap is met or one cannot lose a step, and not over it once.
 pub(crate) fn run_turns<C: Candidate>(list: &[C], numbers: &mut [u32], gap: u64) -> u64
     ensures numbers { numbers.new ≡ (stage_cut last_step (map C.place list.now) numbers.old gap).numbers }
     ensures left { result ≡ (stage_cut last_step (map C.place list.now) numbers.old gap).left }
