@@ -1,7 +1,6 @@
 -- What holds of every day, over its fields.
-use Rattle.std.specs.Prelude.{◌≡◌, ℕ, ◌<◌, ◌≤◌, Bool, true, ◌&&◌, List, length, ℤ, slice_index_or}
+use Rattle.std.specs.Prelude.{◌≡◌, ℕ, ◌≤◌, Bool, true, ◌&&◌, List, length, ℤ, All}
 use Rattle.market.specs.declared.records.Interval.{Interval}
-use Rattle.market.specs.Blank.{fresh}
 use Rattle.market.specs.Bounds.{minutes_ok, price_ok, net_ok}
 
 -- a record whose price and net position are within the bounds of entry
@@ -12,4 +11,4 @@ terms_lawful x = price_ok x.price && net_ok x.net x.rounded
 abbrev pub Sound : ℤ → ℕ → List Interval → Type 0
 Sound minutes count xs =
     (minutes_ok minutes ≡ true) × (1 ≤ count) × (count ≤ 100) × (length xs ≡ 100)
-    × ((k : ℕ) → k < 100 → terms_lawful (slice_index_or xs k fresh) ≡ true)
+    × All (λ x. terms_lawful x ≡ true) xs

@@ -10,6 +10,7 @@ mod marks;
 #[derive(Drop)]
 pub struct Day {
     minutes: i32,
+    // A library crate has no heap: the table is of fixed length, with the count beside it.
     count: usize,
     intervals: [Interval; 100],
     ghost sound: { Sound minutes count intervals },

@@ -27,7 +27,8 @@ pub fn start(minutes: i32, count: i32) -> Result<(Day, Open), Refusal>
     ))
 }
 
-// One more record in a memory: 6 exactly when the memory or the limit is full.
+// One more record in a memory: 6 exactly when the memory or the limit is full. The caller lends the memory, and no crate has a heap,
+// so the count of its records stands beside it.
 fn enter<T: Copy>(memory: &mut [T], count: usize, most: usize, record: T) -> Result<usize, Refusal>
     requires { most ≤ 1024 }
     ensures answers { result ≡ then (room count (length memory.old) most) (Ok (count + 1)) }

@@ -3,10 +3,8 @@ use borrow.Author.Differences.{ints}
 use Rattle.std.proofs.lemmas.Int.{to_z-of_z}
 use Rattle.ledger.specs.Model.{answer, after, total}
 use Rattle.ledger.proofs.Posting.{after_taken, after_refused, total-posted}
-use Rattle.engine.specs.declared.refusal.Refusal.{Refusal}
 use Rattle.engine.specs.Marks.{shows_out}
 use Rattle.engine.specs.Booking.{booked, balancing}
-use Rattle.engine.proofs.Bookings.{unposted, all_posted}
 use Rattle.engine.proofs.day.Day.book.Goals as goal
 
 pub returns-in-Err-clause-books : goal.returns-in-Err-clause-books
@@ -19,7 +17,7 @@ returns-in-Err-clause-books g c =
     let amount : to_z w64 (of_z w64 x) ≡ booked d t = to_z-of_z w64 x w ∙ c.booked.ensures in
     let shows : shows_out d t.interval t.steps ≡ true = sym c.shows_out.ensures ∙ c.if-not-shows_out.false in
     let no : answer m balancing (booked d t) ≡ Err c.in-Err.refused = ap (answer m balancing) (sym amount) ∙ sym c.in-Err.ensures.answers in (
-      unposted (shows_out d t.interval t.steps) (answer m balancing (booked d t)) c.in-Err.refused shows no ∙ ap (λ (e : Refusal). Err e) (sym c.into.ensures),
+      rw (shows, no, c.into.ensures) refl,
       refl,
       refl,
       c.post.ensures.posts ∙ ap (after m balancing) amount ∙ after_refused m balancing (booked d t) c.in-Err.refused no,
@@ -37,7 +35,7 @@ returns-clause-books g c =
     let shows : shows_out d t.interval t.steps ≡ true = sym c.shows_out.ensures ∙ c.if-not-shows_out.false in
     let took : answer m balancing (booked d t) ≡ Ok tt = ap (answer m balancing) (sym amount) ∙ sym c.in_default.ensures.answers in
     let posts = c.post.ensures.posts ∙ ap (after m balancing) amount in (
-      all_posted (shows_out d t.interval t.steps) (answer m balancing (booked d t)) shows took,
+      rw (shows, took) refl,
       rw i at c.put_mark.ensures,
       posts,
       ap total (posts ∙ after_taken m balancing (booked d t) took) ∙ total-posted m balancing (booked d t) took,
