@@ -1,5 +1,5 @@
 // The verdict at the edges of each rule.
-use market::records::{Block, Interval, Mark, Market, Order, Side};
+use market::records::{Block, Book, Fills, Interval, Mark, Market, Order, Side};
 use market::refusal::Refusal;
 use verdict::verdict;
 
@@ -40,18 +40,27 @@ fn block(side: Side, first: i32, last: i32, limit: i32, quantity: i32, least: i3
     }
 }
 
-// The number and the place of the refusal of a paper, or 0 and 0 with its welfare.
+// The welfare of a paper, or the number and the place of its refusal.
+type Answer = Result<i64, (u32, u32)>;
+
 fn answer(
     day: &[Interval],
     orders: &[Order],
     order_fills: &[u32],
     blocks: &[Block],
     block_fills: &[u32],
-) -> (u32, u32, i64) {
-    match verdict(day, orders, order_fills, blocks, block_fills) {
-        Ok(welfare) => (0, 0, welfare),
-        Err(refusal) => (refusal.number(), refusal.place(), 0),
-    }
+) -> Answer {
+    let book = Book { orders, blocks };
+    let fills = Fills {
+        orders: order_fills,
+        blocks: block_fills,
+    };
+    verdict(day, book, fills).map_err(|refusal| (refusal.number(), refusal.place()))
+}
+
+// The number of a refusal, or 0.
+fn number(answer: Answer) -> u32 {
+    answer.err().map_or(0, |(number, _)| number)
 }
 
 #[test]
@@ -70,28 +79,28 @@ fn order_prices(rt: HostRuntime) {
         (Side::Buy, 5_001, 1, -1, 14),
         (Side::Buy, 5_000, 1, -1, 0),
     ] {
-        let (number, _, _) = answer(
+        let found = answer(
             &[interval(price, net)],
             &[order(side, 5_000, 100)],
             &[fill],
             &[],
             &[],
         );
-        assert_eq!(rt; number, refused);
+        assert_eq!(rt; number(found), refused);
     }
 }
 
 #[test]
 fn block_percentages(rt: HostRuntime) {
     for (fill, refused) in [(349, 16), (350, 0), (0, 0), (1_000, 0), (1_001, 13)] {
-        let (number, _, _) = answer(
+        let found = answer(
             &[interval(0, fill)],
             &[],
             &[],
             &[block(Side::Sell, 1, 1, 0, 10, 35)],
             &[fill as u32],
         );
-        assert_eq!(rt; number, refused);
+        assert_eq!(rt; number(found), refused);
     }
 }
 
@@ -108,18 +117,19 @@ fn block_prices(rt: HostRuntime) {
             Side::Buy => -1_000,
         };
         let day = [interval(3_900, net), interval(second, net)];
-        let (number, place, welfare) = answer(
+        let expected = if refused == 0 {
+            Ok(8_000 * -i64::from(net))
+        } else {
+            Err((refused, 1))
+        };
+        let found = answer(
             &day,
             &[],
             &[],
             &[block(side, 1, 2, 4_000, 10, 35)],
             &[1_000],
         );
-        assert_eq!(rt;
-            (number, place),
-            (refused, if refused == 0 { 0 } else { 1 })
-        );
-        assert!(rt; refused != 0 || welfare == 8_000 * -(net as i64));
+        assert_eq!(rt; found, expected);
     }
 }
 
@@ -132,31 +142,31 @@ fn first_fault(rt: HostRuntime) {
         order(Side::Buy, 6_000, 120),
     ];
     for (fills, expected) in [
-        ([10_000, 2_350, 12_000], (0, 0, 20_250_000)),
-        ([9_000, 3_350, 12_000], (15, 1, 0)),
-        ([10_000, 2_350, 11_999], (15, 3, 0)),
-        ([10_000, 2_351, 12_000], (18, 1, 0)),
-        ([9_000, 5_001, 12_001], (13, 2, 0)),
-        ([9_000, u32::MAX, u32::MAX], (13, 2, 0)),
+        ([10_000, 2_350, 12_000], Ok(20_250_000)),
+        ([9_000, 3_350, 12_000], Err((15, 1))),
+        ([10_000, 2_350, 11_999], Err((15, 3))),
+        ([10_000, 2_351, 12_000], Err((18, 1))),
+        ([9_000, 5_001, 12_001], Err((13, 2))),
+        ([9_000, u32::MAX, u32::MAX], Err((13, 2))),
     ] {
         assert_eq!(rt; answer(&day, &orders, &fills, &[], &[]), expected);
     }
     assert_eq!(rt;
         answer(&day, &orders, &[10_000, 2_350], &[], &[]),
-        (11, 0, 0)
+        Err((11, 0))
     );
     assert_eq!(rt;
         answer(&day, &orders, &[10_000, 2_350, 12_000, 0], &[], &[]),
-        (11, 0, 0)
+        Err((11, 0))
     );
     assert_eq!(rt;
         answer(&day, &orders, &[10_000, 2_350, 12_000], &[], &[0]),
-        (11, 0, 0)
+        Err((11, 0))
     );
 }
 
 // Two orders that fill each other, and two blocks after them.
-fn four_entries(third: Block, fourth: Block, fills: &[u32]) -> (u32, u32, i64) {
+fn four_entries(third: Block, fourth: Block, fills: &[u32]) -> Answer {
     let day = [interval(0, 0), interval(0, 1)];
     let orders = [order(Side::Sell, 0, 1), order(Side::Buy, 0, 1)];
     answer(&day, &orders, &[100, 100], &[third, fourth], fills)
@@ -167,15 +177,15 @@ fn entries_count_on_after_the_orders(rt: HostRuntime) {
     let good = block(Side::Sell, 1, 2, 0, 10, 35);
     assert_eq!(rt;
         four_entries(good, block(Side::Sell, 1, 2, 0, 0, 35), &[0, 0]),
-        (12, 4, 0)
+        Err((12, 4))
     );
-    assert_eq!(rt; four_entries(good, good, &[0, 1_001]), (13, 4, 0));
-    assert_eq!(rt; four_entries(good, good, &[349, 0]), (16, 3, 0));
+    assert_eq!(rt; four_entries(good, good, &[0, 1_001]), Err((13, 4)));
+    assert_eq!(rt; four_entries(good, good, &[349, 0]), Err((16, 3)));
     assert_eq!(rt;
         four_entries(good, block(Side::Sell, 1, 2, 1, 10, 35), &[0, 350]),
-        (17, 4, 0)
+        Err((17, 4))
     );
-    assert_eq!(rt; four_entries(good, good, &[0, 0]), (18, 2, 0));
+    assert_eq!(rt; four_entries(good, good, &[0, 0]), Err((18, 2)));
 }
 
 #[test]
@@ -191,15 +201,15 @@ fn widest_records(rt: HostRuntime) {
         };
         assert_eq!(rt;
             answer(&day, &[lawful, wide], &[0, u32::MAX], &[], &[]),
-            (12, 2, 0)
+            Err((12, 2))
         );
         let broad = block(Side::Buy, extreme, extreme, extreme, extreme, extreme);
         assert_eq!(rt;
             answer(&day, &[lawful], &[0], &[broad], &[u32::MAX]),
-            (12, 2, 0)
+            Err((12, 2))
         );
         let empty = answer(&day, &[], &[], &[], &[]);
-        assert_eq!(rt; empty, (18, 1, 0));
+        assert_eq!(rt; empty, Err((18, 1)));
     }
 }
 
@@ -228,12 +238,9 @@ fn no_balanced_paper_does_better(rt: HostRuntime) {
     let first = [10_000, 2_350, 0, 12_000];
     let second = [10_000, 1_000, 1_350, 12_000];
     let third = [9_000, 3_350, 0, 12_000];
-    assert_eq!(rt; answer(&day, &orders, &first, &[], &[]), (0, 0, 20_250_000));
-    assert_eq!(rt;
-        answer(&day, &orders, &second, &[], &[]),
-        (0, 0, 20_250_000)
-    );
-    assert_eq!(rt; answer(&day, &orders, &third, &[], &[]), (15, 1, 0));
+    assert_eq!(rt; answer(&day, &orders, &first, &[], &[]), Ok(20_250_000));
+    assert_eq!(rt; answer(&day, &orders, &second, &[], &[]), Ok(20_250_000));
+    assert_eq!(rt; answer(&day, &orders, &third, &[], &[]), Err((15, 1)));
     assert_eq!(rt; worth(&orders, &second), 20_250_000);
     assert_eq!(rt; worth(&orders, &third), 19_250_000);
 }

@@ -19,7 +19,8 @@ use Rattle.engine.specs.declared.refusal.Refusal.TheVariants.{NotOut}
 use Rattle.engine.specs.declared.remainder.Remainder.{Remainder}
 use Rattle.engine.specs.Days.{place_of, record_of, with_state}
 use Rattle.engine.specs.Marks.{is_out, note_answer, shows_out}
-use Rattle.engine.specs.Settling.{Lengths, Settling, ready, steps}
+use Rattle.entries.specs.Settles.{Lengths, settle_steps}
+use Rattle.engine.specs.Settling.{Settling, ready, asked}
 use Rattle.engine.proofs.Settlings.{ready_in}
 
 -- an answer that is no refusal: the check before it refused nothing
@@ -36,7 +37,7 @@ none_refused b e right h =
 pub handed_is_out : (p : Passed) (d d' : Day) (os : List Order) (fs : List ℕ) (bs : List Block) (gs : List ℕ) (i : ℤ) (l : Lengths) (m m' : List Account) (s s' : List ℕ) (t : Remainder) (e : Refusal)
     → Settling p d os fs bs gs i l m s (Ok t) d' s' m' → note_answer d' t ≡ Err e → ⊥
 handed_is_out p d d' os fs bs gs i l m m' s s' t e (ok, handed, recorded, written, posts) refused =
-    let z = steps p d os fs bs gs i in
+    let z : ℤ = settle_steps (asked p d os fs bs gs i) in
     let within : in_day d.count i ≡ true = ready_in p d os bs i (first_ok (ready p d os bs i) _ z ok) in
     let b = between_two (pos 1) i (pos d.count) within in
     let most = d.sound.2 in
