@@ -57,6 +57,7 @@ const FIRST_PAPER: [u32; 3] = [9_000, 3_350, 12_000];
 
 const SECOND_PAPER: [u32; 3] = [10_000, 2_350, 12_000];
 
+// The words of this program: a `Display` of `Side` would put them into the library.
 fn trade(side: Side) -> &'static str {
     match side {
         Side::Sell => "sell",
