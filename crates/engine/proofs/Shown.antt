@@ -4,7 +4,6 @@ use lib.Dec.{T}
 use lib.Signed.{non_neg}
 use Rattle.std.specs.Prelude.{Some, None}
 use borrow.Author.Differences.{ints, abs_is}
-use Rattle.std.proofs.lemmas.Bool.{and_parts}
 use Rattle.market.specs.declared.records.Interval.{Interval}
 use Rattle.market.specs.Bounds.{same, in_day}
 use Rattle.market.proofs.Facts.{between_two}
@@ -29,10 +28,6 @@ shown_some d i x e = by_test (in_day d.count i) refl e where
   by_test : (b : Bool) → b ≡ in_day d.count i → Some x ≡ cond b (Some (record_of d i)) None → (in_day d.count i ≡ true) × (x ≡ record_of d i)
   by_test true is e = (sym is, cc)
   by_test false is e = let n : ◌≡◌ {A = ℕ} 0 1 = cc in absurd (omega arith)
-
--- an interval that the day shows out is one of the day
-pub out_in : (d : Day) (i z : ℤ) → shows_out d i z ≡ true → in_day d.count i ≡ true
-out_in d i z e = (and_parts (in_day d.count i) (is_out (record_of d i).mark && same (record_of d i).remainder z) e).0
 
 -- of a record that is out the remainder decides
 pub shows_same : (d : Day) (i z : ℤ) (x : Interval) → Some x ≡ shown d i → is_out x.mark ≡ true → shows_out d i z ≡ same x.remainder z
