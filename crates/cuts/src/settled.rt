@@ -76,7 +76,8 @@ fn lists_fit(book: Book<'_>, order_list: usize, block_list: usize) -> bool
     book.orders.len() <= order_list && book.blocks.len() <= block_list
 }
 
-// An interval of a book, R, and a paper that fits the book.
+// An interval of a book, R, and a paper that fits the book. That the lent numbers and lists have room stays a clause of each method:
+// a struct that held them would have every clause say that the book and the fills stay as they are.
 #[derive(Drop)]
 struct Rounding<'a> {
     book: Book<'a>,

@@ -7,10 +7,8 @@ ghost use Rattle.engine.specs.Sound.{terms_lawful};
 use super::day::Day;
 use super::refusal::Refusal;
 use super::remainder::{Remainder, Returned};
-use ledger::Ledger;
+use ledger::{BALANCING, Ledger};
 use market::records::{Interval, Mark};
-
-const BALANCING: u32 = 1;
 
 impl Day {
     // What booking posts: minus the worth of the remainder.

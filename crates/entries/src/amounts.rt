@@ -5,11 +5,10 @@ ghost use Rattle.entries.specs.Amounts.{conditions, worth, posting_of, exchange}
 
 use super::book::Party;
 use super::terms::Terms;
+use ledger::EXCHANGE;
 use posting::Posting;
 
 const NO_STEPS: u32 = 0;
-
-const EXCHANGE: u32 = 0;
 
 impl Terms {
     /// The amount of steps in grains: price × steps × quarters.

@@ -5,6 +5,12 @@ ghost use Rattle.ledger.specs.Model.{raised};
 /// The widest bounds of a balance, either way, in grains.
 pub const LIMIT: i64 = 10_000_000_000_000_000;
 
+/// The account of the exchange.
+pub const EXCHANGE: u32 = 0;
+
+/// The account for balancing.
+pub const BALANCING: u32 = 1;
+
 /// An account: its number, its balance and the bounds of its balance, in grains.
 #[derive(Clone, Copy, PartialEq, Eq, Debug)]
 pub struct Account {

@@ -11,7 +11,7 @@ mod lent;
 mod refusal;
 mod sum;
 
-pub use account::{Account, LIMIT};
+pub use account::{Account, BALANCING, EXCHANGE, LIMIT};
 pub use laws::laws_stand;
 pub use refusal::PostRefused;
 pub use sum::sum_of_balances;

@@ -3,11 +3,7 @@ ghost use Rattle.std.specs.Prelude.{◌≡◌, pos};
 ghost use Rattle.ledgers.specs.Operator.{operators, InLimit, widened};
 ghost use Rattle.ledgers.specs.Lawfuls.{operators-lawful};
 
-use ledger::{Account, Accounts, LIMIT, Ledger, PostRefused};
-
-const EXCHANGE: u32 = 0;
-
-const BALANCING: u32 = 1;
+use ledger::{Account, Accounts, BALANCING, EXCHANGE, LIMIT, Ledger, PostRefused};
 
 const ACCOUNTS: usize = 2;
 

@@ -16,6 +16,8 @@ pub(crate) trait Check<T> {
         ensures { result ≡ answer self.now x.now number };
 }
 
+// How many entries there are stays a clause of each walk: the three go over slices of their own, records, or entries with fills.
+
 /// What the first record answers that is refused.
 pub(crate) fn first_refused<T, C: Check<T>>(
     check: &C,

@@ -3,7 +3,7 @@ use ledger::{Account, Accounts, Ledger, sum_of_balances};
 use ledgers::{Joined, Operator, Table};
 
 // The number from which on the accounts are those of the firms.
-pub(crate) const BORDER: u32 = 2;
+const BORDER: u32 = 2;
 
 // The accounts of the firms, at the start.
 pub(crate) const FIRMS: [Account; 3] = [
@@ -59,16 +59,19 @@ fn post<L: Ledger>(
     show_balances(rt, ledger)
 }
 
+/// The operator's accounts without a balance, and those of firms.
+pub(crate) fn open_ledger(firms: &mut [Account]) -> Joined<Operator, Table<'_>> {
+    Joined {
+        first: Operator::new(),
+        second: Table { records: firms },
+        border: BORDER,
+    }
+}
+
 /// Opens the accounts of the day, and makes two postings of which the second exceeds an account's bound.
 pub(crate) fn show_accounts(rt: &HostRuntime) -> anyhow::Result<()> {
     let mut firms = FIRMS;
-    let mut ledger = Joined {
-        first: Operator::new(),
-        second: Table {
-            records: &mut firms,
-        },
-        border: BORDER,
-    };
+    let mut ledger = open_ledger(&mut firms);
     post(rt, &mut ledger, 12, 115_000)?;
     post(rt, &mut ledger, 12, 115_000)
 }

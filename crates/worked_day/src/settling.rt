@@ -1,12 +1,11 @@
 // Settling the interval of the worked day, and booking its remainder.
-use super::accounts::{BORDER, FIRMS, show_balances};
+use super::accounts::{FIRMS, open_ledger, show_balances};
 use cuts::candidates::{BlockCandidate, OrderCandidate};
 use engine::book::Passed;
 use engine::day::Day;
 use engine::remainder::Returned;
 use entries::Work;
 use ledger::{Accounts, Ledger};
-use ledgers::{Joined, Operator, Table};
 use market::records::{Book, Fills};
 
 fn tell<L: Accounts>(rt: &HostRuntime, day: &Day, ledger: &L) -> anyhow::Result<()> {
@@ -67,13 +66,7 @@ pub(crate) fn show_settling(
         blocks: &mut blocks,
     };
     let mut firms = FIRMS;
-    let mut ledger = Joined {
-        first: Operator::new(),
-        second: Table {
-            records: &mut firms,
-        },
-        border: BORDER,
-    };
+    let mut ledger = open_ledger(&mut firms);
     println!(rt; "Interval 1 is settled over fresh accounts.")?;
     settle_and_book(
         rt,

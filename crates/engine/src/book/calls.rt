@@ -1,8 +1,7 @@
 // Starting a day, and filling its book.
-ghost use Rattle.std.specs.Prelude.{◌≡◌, ℕ, ◌+◌, ◌≤◌, length, Ok};
+ghost use Rattle.std.specs.Prelude.{◌≡◌, ◌≤◌, length};
 ghost use Rattle.market.specs.Bounds.{terms_bounds, order_bounds, block_bounds};
-ghost use Rattle.market.specs.First.{then};
-ghost use Rattle.engine.specs.Books.{Started, Termed, room, entry, taken, Entered};
+ghost use Rattle.engine.specs.Books.{Started, Termed, entry, taken, Entered};
 
 use super::{Closed, Counts, Open};
 use crate::day::Day;
@@ -27,13 +26,20 @@ pub fn start(minutes: i32, count: i32) -> Result<(Day, Open), Refusal>
     ))
 }
 
-// One more record in a memory: 6 exactly when the memory or the limit is full. The caller lends the memory, and no crate has a heap,
-// so the count of its records stands beside it.
-fn enter<T: Copy>(memory: &mut [T], count: usize, most: usize, record: T) -> Result<usize, Refusal>
+// One more entry in a memory: its bounds of entry, and then 6 exactly when the memory or the limit is full. The caller lends the
+// memory, and no crate has a heap, so the count of its entries stands beside it.
+fn enter<E: Entry + Copy>(
+    day: &Day,
+    memory: &mut [E],
+    count: usize,
+    most: usize,
+    record: E,
+) -> Result<usize, Refusal>
     requires { most ≤ 1024 }
-    ensures answers { result ≡ then (room count (length memory.old) most) (Ok (count + 1)) }
+    ensures answers { result ≡ entry (E.kind.bounds day.now.count «record») count (length memory.old) most }
     ensures leaves { Entered result «record» count memory.old (taken result count) memory.new }
 {
+    record.check_bounds(day.count())?;
     if count >= memory.len() || count >= most {
         return Err(Refusal::Full);
     }
@@ -79,8 +85,7 @@ impl Open {
         ensures leaves { Entered result order self.old.counts.orders memory.old self.new.counts.orders memory.new }
         ensures blocks { self.new.counts.blocks ≡ self.old.counts.blocks }
     {
-        order.check_bounds(day.count())?;
-        self.counts.orders = enter(memory, self.counts.orders, MOST_ORDERS, order)?;
+        self.counts.orders = enter(day, memory, self.counts.orders, MOST_ORDERS, order)?;
         Ok(self.counts.orders)
     }
 
@@ -96,8 +101,7 @@ impl Open {
         ensures leaves { Entered result block self.old.counts.blocks memory.old self.new.counts.blocks memory.new }
         ensures orders { self.new.counts.orders ≡ self.old.counts.orders }
     {
-        block.check_bounds(day.count())?;
-        self.counts.blocks = enter(memory, self.counts.blocks, MOST_BLOCKS, block)?;
+        self.counts.blocks = enter(day, memory, self.counts.blocks, MOST_BLOCKS, block)?;
         Ok(self.counts.blocks)
     }
 

@@ -60,7 +60,8 @@ impl Day {
         &self.intervals[0..self.count]
     }
 
-    // The place in the table of an interval of the day.
+    // The place in the table of an interval of the day. That the day has the interval stays a clause here and of the methods below:
+    // it speaks of the two together, and a type that kept it would have to hold the day.
     fn place(&self, interval: i32) -> usize
         requires { in_day self.now.count interval ≡ true }
         ensures is { result ≡ place_of interval }
