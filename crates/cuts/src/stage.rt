@@ -8,7 +8,7 @@ use crate::rank::Candidate;
 // A candidate is never cut below this.
 const LAST: u32 = 1;
 
-// The turn of one candidate: it loses a step, unless it holds no more than its last; false where it loses none.
+// The turn of one candidate: it loses a step, unless it holds no more than its last; false where it loses none, which ends the turns.
 // The write is by index: after `get_mut` a proof knows the length of the slice alone, and no element.
 fn take_turn<C: Candidate>(list: &[C], numbers: &mut [u32], turn: usize) -> bool
     ensures loses { result ≡ nat_lt 1 (slice_index (held (map C.place list.now) numbers.old) turn) }
@@ -48,6 +48,7 @@ pub(crate) fn run_turns<C: Candidate>(list: &[C], numbers: &mut [u32], gap: u64)
     left
 }
 
+// A call of its own over the turns: the laws of a stage are for callers, and settling would carry them through its proofs unused.
 /// Cuts the numbers of the candidates in `list`, which are in rank order, and answers the gap that is left.
 pub fn cut_stage<C: Candidate>(list: &[C], numbers: &mut [u32], gap: u64) -> u64
     ensures numbers { numbers.new ≡ (stage_cut last_step (map C.place list.now) numbers.old gap).numbers }

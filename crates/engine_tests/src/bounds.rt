@@ -8,6 +8,7 @@ const LEAST: i32 = i32::MIN;
 
 const MOST: i32 = i32::MAX;
 
+// The number of a refusal, and 0 for none: a column of numbers reads plainer in a table than one of `Some` and `None`.
 fn number(answer: Result<(), Refusal>) -> u32 {
     answer.err().map_or(0, |refusal| refusal.number())
 }

@@ -9,6 +9,8 @@ use crate::bounds::{is_account, is_percentage, is_price, is_quantity, is_span};
 use crate::records::{Block, Side};
 use crate::refusal::Refusal;
 
+// The bodies that read a field stand here and for orders alike: one body would need the fields in a record that both hold, and callers
+// fill the records as they are. The bounds differ in their tests, and a body for both would ask an order for a percentage.
 impl Entry for Block {
     ghost kind = { blocks };
 
