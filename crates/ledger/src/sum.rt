@@ -11,7 +11,7 @@ pub fn sum_of_balances<L: Accounts>(ledger: &L) -> i128
     // A loop and no `sum()`: of signed numbers that one needs a bound on every partial sum, which a chain has no place for.
     let mut sum: i128 = 0;
     for place in 0..ledger.count() {
-        sum += balance_at(ledger, place) as i128;
+        sum += i128::from(balance_at(ledger, place));
     }
     sum
 }

@@ -46,7 +46,7 @@ fn check_run(records: &[Account]) -> Result<(), TableRefused>
 fn is_lawful(least: u64, account: Account) -> bool
     ensures { result ≡ lawful_from least account }
 {
-    least <= account.number as u64
+    least <= u64::from(account.number)
         && (-LIMIT..=account.balance).contains(&account.lower)
         && (account.balance..=LIMIT).contains(&account.upper)
 }
@@ -63,7 +63,7 @@ fn open_count(records: &[Account]) -> usize
         if !is_lawful(least, *account) {
             return open;
         }
-        least = account.number as u64 + 1;
+        least = u64::from(account.number) + 1;
     }
     few.len()
 }

@@ -58,7 +58,7 @@ pub(crate) fn is_price(price: i32) -> bool
 fn rounding(net: i32, rounded: i32) -> i64
     ensures { result ≡ (pos 100 *ℤ rounded) -ℤ net }
 {
-    THOUSANDTHS_PER_STEP * rounded as i64 - net as i64
+    THOUSANDTHS_PER_STEP * i64::from(rounded) - i64::from(net)
 }
 
 fn is_net(net: i32, rounded: i32) -> bool

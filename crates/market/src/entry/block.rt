@@ -19,7 +19,8 @@ impl Entry for Block {
     }
 
     fn covers(&self, interval: u32) -> bool {
-        self.first as i64 <= interval as i64 && interval as i64 <= self.last as i64
+        let interval = i64::from(interval);
+        i64::from(self.first) <= interval && interval <= i64::from(self.last)
     }
 
     fn quantity(&self) -> i32 {

@@ -14,7 +14,7 @@ impl Entry for Order {
     }
 
     fn covers(&self, interval: u32) -> bool {
-        self.interval as i64 == interval as i64
+        i64::from(self.interval) == i64::from(interval)
     }
 
     fn quantity(&self) -> i32 {

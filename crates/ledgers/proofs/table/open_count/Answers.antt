@@ -16,4 +16,5 @@ loop-open-preserved c =
     let few = take c.min.result rs in
     let i = c.loop-open.«open» in
     let e : lawful_from c.loop-open.least (get_or few i blank) ≡ true = search rules in
-    count_more few c.loop-open.least i (open_records rs) blank c.loop-open.invariant (omega arith) e
+    let n = c.from-least.ensures in
+    rw n (count_more few c.loop-open.least i (open_records rs) blank c.loop-open.invariant (omega arith) e)
