@@ -5,7 +5,7 @@ use Rattle.std.proofs.lemmas.Nat.{div-add-mod', div-mul-add, mod-mul-add, mod_be
 use Rattle.std.proofs.lemmas.List.{length-set, get_or-set_same, get_or-set_other}
 use Rattle.std.proofs.lemmas.Bool.{cases_eq, cases_lt, le-leb, lt-leb, cond-true, cond-false}
 use Rattle.std.proofs.lemmas.Bool.Decides.{nat_tests, eqb_tells}
-use Rattle.cuts.proofs.Place.{three_ways}
+use Rattle.cuts.proofs.Place.{by_order}
 use Rattle.cuts.specs.Stages.{next_turn, smallest, ahead, open_cuts}
 
 -- what the candidate of rank r among n has lost after k cuts
@@ -100,17 +100,15 @@ module _ (qs : List ℕ) (some : 0 < length qs) (held : (r : ℕ) → r < length
       let le : m ≤ get_or qs (k % n) 0 = smallest_le qs (k % n) b in
       let pos : 0 < m = omega (arith, held j f.0) in
       let c = mul_comm n (m - 1) in
-      ⊎_elim
+      by_order (k / n) (m - 1)
       (λ lt. omega arith)
-      (⊎_elim
       (λ e.
       let s : k / n * n ≡ (m - 1) * n = ap (λ q. q * n) e in
       let ne : get_or qs (k % n) 0 ≢ m = not_ahead m qs (k % n) (omega arith) b in
       omega arith)
       (λ gt.
       let s : (m - 1 + 1) * n ≤ k / n * n = mul-le-mul_right n (omega arith) in
-      absurd (omega (arith, add-mul (m - 1) 1 n))))
-      (three_ways (k / n) (m - 1))
+      absurd (omega (arith, add-mul (m - 1) 1 n)))
 
   -- and then it holds exactly one
   open_stops : get_or qs (open_cuts qs % length qs) 0 - open_cuts qs / length qs ≡ 1

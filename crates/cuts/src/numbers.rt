@@ -17,7 +17,7 @@ fn number<E: Entry>(interval: u32, entry: &E, fill: u32) -> u32
     }
 }
 
-// Writes the rounded number of each entry, by index: after a loop over `iter_mut` a proof knows the length alone, and no element.
+// Writes the rounded number of each entry, by index: of a chain on `iter_mut()` a proof knows the length alone, and no element.
 pub(crate) fn write_rounded<E: Entry>(paper: &Paper<'_, E>, interval: u32, numbers: &mut [u32])
     requires { length numbers.old ≡ length paper.now.entries.now }
     ensures { numbers.new ≡ rounded_numbers E.kind interval paper.now.entries.now paper.now.fills.now }

@@ -24,12 +24,7 @@ mod tests {
 
     const BUY: Order = Order {
         side: Side::Buy,
-        interval: 1,
-        limit: 10,
-        quantity: 1,
-        market: Market::Spot,
-        stamp: 1,
-        account: 1,
+        ..SELL
     };
 
     const BLOCK: Block = Block {
@@ -74,10 +69,8 @@ mod tests {
         if answer != Some(remainder) {
             return Err(Fail::new("the remainder"));
         }
-        for (at, number) in settled.iter().enumerate() {
-            if at >= 16 || numbers[at] != *number {
-                return Err(Fail::new("a settled number"));
-            }
+        if !numbers.starts_with(settled) {
+            return Err(Fail::new("a settled number"));
         }
         Ok(())
     }
@@ -339,8 +332,7 @@ mod tests {
             rounded_numbers(with_block, three, 1, 0, &mut numbers),
             None
         );
-        assert_eq!(rt; numbers[0], 7);
-        assert_eq!(rt; numbers[1], 7);
+        assert_eq!(rt; numbers, [7, 7]);
     }
 
     #[test]

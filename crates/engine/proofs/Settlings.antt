@@ -14,7 +14,7 @@ use Rattle.market.specs.Bounds.{in_day}
 use Rattle.market.proofs.Facts.{tests_out}
 use Rattle.entries.specs.declared.refused.SettleRefused.{SettleRefused}
 use Rattle.entries.specs.Amounts.{Conditions}
-use Rattle.entries.specs.Settles.{Settlement, Lengths, settle_checks, settle_list, settle_steps, settle_sheet, with_steps, checked, if_checked, settled_sheet, settled_accounts, settle_answer as slices_answer}
+use Rattle.entries.specs.Settles.{Settlement, Lengths, settle_checks, settle_list, settle_steps, settle_sheet, with_steps, checked, settled_sheet, settled_accounts, settle_answer as slices_answer}
 use Rattle.engine.specs.declared.day.Day.{Day}
 use Rattle.engine.specs.declared.book.Passed.{Passed}
 use Rattle.engine.specs.declared.refusal.Refusal.{Refusal}
@@ -42,13 +42,13 @@ ok_parts (Ok u) (Ok v) z y e = (refl, refl, cc)
 ok_parts (Ok u) (Err f) z y e = let n : ◌≡◌ {A = ℕ} 0 1 = cc in absurd (omega arith)
 ok_parts (Err f) a z y e = let n : ◌≡◌ {A = ℕ} 0 1 = cc in absurd (omega arith)
 
-pub err_keeps : {X : Type 0} (chk : Result Unit MarketRefusal) (a : Result (Unit {0}) PostRefused) (z : ℤ) (f : SettleRefused) (new old : X) → Err f ≡ checked chk (with_steps a z) → if_checked chk (if_taken a new old) old ≡ old
+pub err_keeps : {X : Type 0} (chk : Result Unit MarketRefusal) (a : Result (Unit {0}) PostRefused) (z : ℤ) (f : SettleRefused) (new old : X) → Err f ≡ checked chk (with_steps a z) → if_taken chk (if_taken a new old) old ≡ old
 err_keeps (Ok u) (Ok v) z f new old e = let n : ◌≡◌ {A = ℕ} 0 1 = cc in absurd (omega arith)
 err_keeps (Ok u) (Err g) z f new old e = refl
 err_keeps (Err g) a z f new old e = refl
 
-pub ok_gives : {X : Type 0} (chk : Result Unit MarketRefusal) (a : Result (Unit {0}) PostRefused) (new old : X) → chk ≡ Ok tt → a ≡ Ok tt → if_checked chk (if_taken a new old) old ≡ new
-ok_gives chk a new old p q = ap (λ (k : Result Unit MarketRefusal). if_checked k (if_taken a new old) old) p ∙ ap (λ (k : Result (Unit {0}) PostRefused). if_taken k new old) q
+pub ok_gives : {X : Type 0} (chk : Result Unit MarketRefusal) (a : Result (Unit {0}) PostRefused) (new old : X) → chk ≡ Ok tt → a ≡ Ok tt → if_taken chk (if_taken a new old) old ≡ new
+ok_gives chk a new old p q = ap (λ (k : Result Unit MarketRefusal). if_taken k (if_taken a new old) old) p ∙ ap (λ (k : Result (Unit {0}) PostRefused). if_taken k new old) q
 
 -- ---- the same over other names of the book, the interval and its terms
 module _ (p : Passed) (d : Day) (os : List Order) (fs : List ℕ) (bs : List Block) (gs : List ℕ) (i : ℤ) (l : Lengths) (x : Settlement) (e : x ≡ asked p d os fs bs gs i) where

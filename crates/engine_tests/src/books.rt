@@ -132,7 +132,7 @@ fn fill_book(
     mut book: Open,
     orders: &mut [Order],
     blocks: &mut [Block],
-) -> Result<Closed, Refusal> {
+) -> Result<Closed, Fail> {
     for _ in 0..1024 {
         book.enter_order(day, orders, PLAIN)?;
     }
@@ -140,9 +140,8 @@ fn fill_book(
         book.enter_block(day, blocks, EVERYWHERE)?;
     }
     match book.enter_order(day, orders, PLAIN) {
-        Ok(_) => Err(Refusal::Count),
         Err(Refusal::Full) => Ok(book.close()),
-        Err(other) => Err(other),
+        _ => Err(Fail::new("a full book takes no more orders")),
     }
 }
 

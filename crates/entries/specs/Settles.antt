@@ -8,7 +8,7 @@ use Rattle.market.specs.declared.refusal.Refusal.{Refusal}
 use Rattle.market.specs.declared.refusal.Refusal.TheVariants.{NoInterval, Short}
 use Rattle.market.specs.First.{tests, then}
 use Rattle.verdict.specs.Verdict.{paper_checks}
-use Rattle.cuts.specs.Settled.{settled_numbers, remainder_of}
+use Rattle.cuts.specs.Settled.{settled_numbers, remainder_of, SameLists}
 use Rattle.ledger.specs.declared.account.Account.{Account}
 use Rattle.ledger.specs.declared.refusal.PostRefused.{PostRefused}
 use Rattle.ledger.specs.Model.{total, if_taken}
@@ -53,7 +53,7 @@ pub record Lengths : Type 0 where
 
 -- those of working slices
 abbrev pub work_lengths : Work → WorkLengths
-work_lengths w = record { numbers = length w.numbers.now; orders = length w.orders.now; blocks = length w.blocks.now }
+work_lengths w = record { numbers = length w.numbers.now; orders = length w.lists.orders.now; blocks = length w.lists.blocks.now }
 
 -- those of a sheet and of working slices
 abbrev pub lengths : List ℕ → Work → Lengths
@@ -62,8 +62,7 @@ lengths s w = record { sheet = length s; work = work_lengths w }
 -- the same slices, whatever they hold
 pub record SameSlices (w w' : Work) : Type 0 where
   pub numbers : w'.numbers.ghost_name ≡ w.numbers.ghost_name
-  pub orders : w'.orders.ghost_name ≡ w.orders.ghost_name
-  pub blocks : w'.blocks.ghost_name ≡ w.blocks.ghost_name
+  pub lists : SameLists w.lists w'.lists
   pub lengths : work_lengths w' ≡ work_lengths w
 
 -- ---- the checks
@@ -135,11 +134,6 @@ abbrev pub checked : Result Unit Refusal → Result ℤ SettleRefused → Result
 checked (Ok _) answer = answer
 checked (Err e) answer = Err (Market e)
 
--- what is left where the checks pass, and else
-abbrev pub if_checked : {X : Type 0} → Result Unit Refusal → X → X → X
-if_checked (Ok _) x y = x
-if_checked (Err _) x y = y
-
 -- what is answered to postings of a settlement whose checks have passed: the remainder, where all are taken
 abbrev pub carried_answer : Settlement → List Account → Result ℤ SettleRefused
 carried_answer x m = with_steps (answers m (settle_list x)) (settle_steps x)
@@ -154,11 +148,11 @@ settle_answer x l m = checked (settle_checks x l) (carried_answer x m)
 
 -- the accounts that settling leaves: with all postings, or as they were
 abbrev pub settled_accounts : Settlement → Lengths → List Account → List Account
-settled_accounts x l m = if_checked (settle_checks x l) (left m (settle_list x)) m
+settled_accounts x l m = if_taken (settle_checks x l) (left m (settle_list x)) m
 
 -- the sheet that settling leaves: with the settled numbers, or as it was
 abbrev pub settled_sheet : Settlement → Lengths → List Account → List ℕ → List ℕ
-settled_sheet x l m s = if_checked (settle_checks x l) (carried_sheet x m s) s
+settled_sheet x l m s = if_taken (settle_checks x l) (carried_sheet x m s) s
 
 -- Settled, the sum of all balances has moved by the worth of the remainder; refused, accounts and sheet are as they were.
 abbrev pub Moved : Result ℤ SettleRefused → Conditions → List Account → List Account → List ℕ → List ℕ → Type 0

@@ -33,8 +33,8 @@ impl Work<'_> {
         let entries = orders + blocks;
         orders + blocks * intervals <= sheet.len()
             && entries <= self.numbers.len()
-            && entries <= self.orders.len()
-            && entries <= self.blocks.len()
+            && entries <= self.lists.orders.len()
+            && entries <= self.lists.blocks.len()
     }
 }
 

@@ -11,7 +11,6 @@ use super::refused::SettleRefused;
 use super::task::Task;
 use super::terms::Terms;
 use super::work::Work;
-use cuts::candidates::Lists;
 use cuts::settled::settled_numbers;
 use ledger::{Ledger, PostRefused};
 use market::records::{Book, Fills};
@@ -25,16 +24,12 @@ impl Task<'_> {
         ensures slices { SameSlices work.old work.new }
         ensures numbers { take (length self.entry.book.orders.now + length self.entry.book.blocks.now) work.new.numbers.now ≡ settle_numbers (settlement_of self.entry) }
     {
-        let mut lists = Lists {
-            orders: work.orders,
-            blocks: work.blocks,
-        };
         let steps = settled_numbers(
             self.book,
             self.fills,
             self.interval,
             self.terms.rounded,
-            &mut lists,
+            &mut work.lists,
             work.numbers,
         )
         .unwrap();

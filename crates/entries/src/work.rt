@@ -1,10 +1,9 @@
 // The working slices of settling.
-use cuts::candidates::{BlockCandidate, OrderCandidate};
+use cuts::candidates::Lists;
 
 /// The working slices, in the caller's memory: a place for each entry in each. They may hold anything, before and after.
 #[derive(Drop)]
 pub struct Work<'a> {
     pub numbers: &'a mut [u32],
-    pub orders: &'a mut [OrderCandidate],
-    pub blocks: &'a mut [BlockCandidate],
+    pub lists: Lists<'a>,
 }

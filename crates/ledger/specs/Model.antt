@@ -73,8 +73,8 @@ abbrev pub posted : List Account → ℕ → ℤ → List Account
 posted [] n amount = []
 posted (a ∷ rest) n amount = cond (a.number == n) (moved a amount ∷ rest) (a ∷ posted rest n amount)
 
--- the first where the answer is Ok, the second where it is a refusal
-abbrev pub if_taken : {X : Type 0} → Result (Unit {0}) PostRefused → X → X → X
+-- the first where the answer is Ok, the second where it is a refusal, of any type
+abbrev pub if_taken : {E X : Type 0} → Result (Unit {0}) E → X → X → X
 if_taken (Ok _) x y = x
 if_taken (Err _) x y = y
 

@@ -35,8 +35,13 @@ fn passed_block() -> Result<(Day, Passed), Fail> {
     let (mut day, mut book) = start(60, 3)?;
     book.terms(&mut day, 1, 150, 1_000, 10)?;
     book.terms(&mut day, 2, 50, 1_000, 10)?;
-    book.enter_block(&day, &mut [BLOCK], BLOCK)?;
-    let passed = passed(book.close(), &day, BOOK, FILLS)?;
+    let mut memory = [BLOCK];
+    book.enter_block(&day, &mut memory, BLOCK)?;
+    let entered = Book {
+        orders: &[],
+        blocks: &memory,
+    };
+    let passed = passed(book.close(), &day, entered, FILLS)?;
     Ok((day, passed))
 }
 
@@ -61,17 +66,17 @@ fn a_block_is_settled_in_each_of_its_intervals(rt: HostRuntime) -> Result<(), Fa
         records: &mut records,
     };
     assert_eq!(rt;
-        settle_and_note(&passed, &mut day, BOOK, FILLS, &mut sheet, &mut table, 2),
+        settle_and_note::<_, 1>(&passed, &mut day, BOOK, FILLS, &mut sheet, &mut table, 2),
         Ok(0)
     );
     assert_eq!(rt; sheet, [7, 10, 7]);
     assert_eq!(rt;
-        settle_and_note(&passed, &mut day, BOOK, FILLS, &mut sheet, &mut table, 1),
+        settle_and_note::<_, 1>(&passed, &mut day, BOOK, FILLS, &mut sheet, &mut table, 1),
         Ok(0)
     );
     assert_eq!(rt; sheet, [10, 10, 7]);
     assert_eq!(rt;
-        settle_and_note(&passed, &mut day, BOOK, FILLS, &mut sheet, &mut table, 1),
+        settle_and_note::<_, 1>(&passed, &mut day, BOOK, FILLS, &mut sheet, &mut table, 1),
         Err(Refusal::NotUnsettled)
     );
     assert_eq!(rt; (records[0].balance, records[1].balance), (-8_000, 8_000));

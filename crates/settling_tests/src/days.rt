@@ -1,5 +1,5 @@
 // A day of one interval with three orders at its price, and a paper on it that passes.
-use cuts::candidates::{BlockCandidate, OrderCandidate};
+use cuts::candidates::{BlockCandidate, Lists, OrderCandidate};
 use engine::book::calls::start;
 use engine::book::{Closed, Open, Pass, Passed};
 use engine::day::Day;
@@ -93,8 +93,8 @@ pub(crate) fn passed_day(
     Ok((day, passed))
 }
 
-/// Settles an interval, and notes its remainder, which is never refused: it was just handed over.
-pub(crate) fn settle_and_note<L: Ledger>(
+/// Settles an interval with working slices of N places, and notes its remainder, which is never refused: it was just handed over.
+pub(crate) fn settle_and_note<L: Ledger, const N: usize>(
     passed: &Passed,
     day: &mut Day,
     book: Book<'_>,
@@ -104,9 +104,11 @@ pub(crate) fn settle_and_note<L: Ledger>(
     interval: i32,
 ) -> Result<i32, Refusal> {
     let mut work = Work {
-        numbers: &mut [0; 3],
-        orders: &mut [OrderCandidate::BLANK; 3],
-        blocks: &mut [BlockCandidate::BLANK; 3],
+        numbers: &mut [0; N],
+        lists: Lists {
+            orders: &mut [OrderCandidate::BLANK; N],
+            blocks: &mut [BlockCandidate::BLANK; N],
+        },
     };
     let remainder = passed.settle(day, book, fills, sheet, &mut work, ledger, interval)?;
     let steps = remainder.steps();
@@ -130,8 +132,10 @@ pub(crate) fn offered_elsewhere<L: Ledger>(
     let (book, fills) = only_orders(&orders, &FILLS);
     let mut work = Work {
         numbers: &mut [0; 3],
-        orders: &mut [OrderCandidate::BLANK; 3],
-        blocks: &mut [BlockCandidate::BLANK; 3],
+        lists: Lists {
+            orders: &mut [OrderCandidate::BLANK; 3],
+            blocks: &mut [BlockCandidate::BLANK; 3],
+        },
     };
     let remainder = passed.settle(day, book, fills, sheet, &mut work, ledger, 1)?;
     let Err(returned) = other.book(ledger, remainder) else {

@@ -44,7 +44,7 @@ fn amounts(rt: HostRuntime) -> Result<(), Fail> {
         let orders = orders(price);
         let (book, fills) = only_orders(&orders, &FILLS);
         assert_eq!(rt;
-            settle_and_note(&passed, &mut day, book, fills, &mut sheet, &mut table, 1),
+            settle_and_note::<_, 3>(&passed, &mut day, book, fills, &mut sheet, &mut table, 1),
             Ok(0)
         );
         assert_eq!(rt; sheet, [100, 23, 120]);
@@ -57,47 +57,32 @@ fn amounts(rt: HostRuntime) -> Result<(), Fail> {
 // Refused at the first, a middle and the last posting, and for an account that is not open: everything is as it was.
 #[test]
 fn refused_postings(rt: HostRuntime) -> Result<(), Fail> {
-    for (narrow, number, refused) in [
-        (
-            2,
-            11,
-            Refusal::Posting(PostRefused::OutOfBounds { account: 11 }),
-        ),
-        (
-            4,
-            13,
-            Refusal::Posting(PostRefused::OutOfBounds { account: 13 }),
-        ),
-        (
-            0,
-            0,
-            Refusal::Posting(PostRefused::OutOfBounds { account: 0 }),
-        ),
-        (
-            3,
-            14,
-            Refusal::Posting(PostRefused::NotOpen { account: 12 }),
-        ),
-    ] {
-        let (mut day, passed) = passed_day(15, 5_000, 3, &FILLS)?;
-        let before = day.interval(1);
-        let mut sheet = [7; 3];
+    let narrowed = |at: usize, number: u32| {
         let mut records = accounts();
-        records[narrow] = Account {
+        records[at] = Account {
             number,
             balance: 0,
             lower: -10,
             upper: 10,
         };
-        if number == 14 {
-            records = [
-                account(0, WIDE),
-                account(1, WIDE),
-                account(11, WIDE),
-                account(13, WIDE),
-                account(14, WIDE),
-            ];
-        }
+        records
+    };
+    let without_12 = [
+        account(0, WIDE),
+        account(1, WIDE),
+        account(11, WIDE),
+        account(13, WIDE),
+        account(14, WIDE),
+    ];
+    for (mut records, refused) in [
+        (narrowed(2, 11), PostRefused::OutOfBounds { account: 11 }),
+        (narrowed(4, 13), PostRefused::OutOfBounds { account: 13 }),
+        (narrowed(0, 0), PostRefused::OutOfBounds { account: 0 }),
+        (without_12, PostRefused::NotOpen { account: 12 }),
+    ] {
+        let (mut day, passed) = passed_day(15, 5_000, 3, &FILLS)?;
+        let before = day.interval(1);
+        let mut sheet = [7; 3];
         let kept = records;
         let mut table = Table {
             records: &mut records,
@@ -105,8 +90,8 @@ fn refused_postings(rt: HostRuntime) -> Result<(), Fail> {
         let orders = orders(5_000);
         let (book, fills) = only_orders(&orders, &FILLS);
         assert_eq!(rt;
-            settle_and_note(&passed, &mut day, book, fills, &mut sheet, &mut table, 1),
-            Err(refused)
+            settle_and_note::<_, 3>(&passed, &mut day, book, fills, &mut sheet, &mut table, 1),
+            Err(Refusal::Posting(refused))
         );
         assert_eq!(rt; sheet, [7, 7, 7]);
         assert_eq!(rt; records, kept);
@@ -128,7 +113,7 @@ fn a_negative_gap_cuts_buys(rt: HostRuntime) -> Result<(), Fail> {
     let orders = orders(5_000);
     let (book, fills) = only_orders(&orders, &fills);
     assert_eq!(rt;
-        settle_and_note(&passed, &mut day, book, fills, &mut sheet, &mut table, 1),
+        settle_and_note::<_, 3>(&passed, &mut day, book, fills, &mut sheet, &mut table, 1),
         Ok(0)
     );
     assert_eq!(rt; sheet, [100, 0, 96]);

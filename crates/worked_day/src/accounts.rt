@@ -29,8 +29,8 @@ pub(crate) const FIRMS: [Account; 3] = [
 
 pub(crate) fn show_balances<L: Accounts>(rt: &HostRuntime, ledger: &L) -> anyhow::Result<()> {
     // Any ledger shows its accounts by their places alone: there is no list to go over.
-    for place in 0..ledger.count() {
-        if let Some(account) = ledger.account_at(place + 1) {
+    for place in 1..=ledger.count() {
+        if let Some(account) = ledger.account_at(place) {
             let balance = ledger.balance(account).unwrap_or(0);
             println!(rt; "  account {account}: {balance} grains")?;
         }

@@ -1,6 +1,6 @@
 // Settling the interval of the worked day, and booking its remainder.
 use super::accounts::{FIRMS, open_ledger, show_balances};
-use cuts::candidates::{BlockCandidate, OrderCandidate};
+use cuts::candidates::{BlockCandidate, Lists, OrderCandidate};
 use engine::book::Passed;
 use engine::day::Day;
 use engine::remainder::Returned;
@@ -62,8 +62,10 @@ pub(crate) fn show_settling(
     let mut blocks = vec![in heap; BlockCandidate::BLANK; entries]?;
     let mut work = Work {
         numbers: &mut numbers,
-        orders: &mut orders,
-        blocks: &mut blocks,
+        lists: Lists {
+            orders: &mut orders,
+            blocks: &mut blocks,
+        },
     };
     let mut firms = FIRMS;
     let mut ledger = open_ledger(&mut firms);

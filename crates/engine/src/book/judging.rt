@@ -14,9 +14,7 @@ impl Closed {
         ensures judged { PaperJudged self.now day.now memory.entry.orders.now fills.entry.orders.now memory.entry.blocks.now fills.entry.blocks.now result }
         ensures best { PaperBest self.now day.now memory.entry.orders.now fills.entry.orders.now memory.entry.blocks.now fills.entry.blocks.now result }
     {
-        let Some(book) = self.counts.held(memory) else {
-            return Err(Refusal::Short);
-        };
+        let book = self.counts.held(memory).ok_or(Refusal::Short)?;
         if fills.orders.len() != self.counts.orders || fills.blocks.len() != self.counts.blocks {
             return Err(Refusal::Short);
         }
