@@ -34,7 +34,8 @@ fn next_turn(count: usize, turn: usize) -> usize
     if turn + 1 < count { turn + 1 } else { 0 }
 }
 
-// The turns of a stage to its end. They go round the list until the gap is met or one cannot lose a step, and not over it once.
+// The turns of a stage to its end. A `while`: they go round the list until the gap is met or one cannot lose a step, and a `for` over a
+// `cycle()` has no end that the check can see.
 pub(crate) fn run_turns<C: Candidate>(list: &[C], numbers: &mut [u32], gap: u64) -> u64
     ensures numbers { numbers.new ≡ (stage_cut last_step (map C.place list.now) numbers.old gap).numbers }
     ensures left { result ≡ (stage_cut last_step (map C.place list.now) numbers.old gap).left }

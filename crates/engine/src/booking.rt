@@ -43,7 +43,7 @@ impl Day {
         Ok(())
     }
 
-    // The worth of a record's remainder while it is out or noted.
+    // The worth of a record's remainder while it is out or noted. A record is plain, so that its terms are lawful stays a clause.
     fn open_part(&self, record: Interval) -> i64
         requires { terms_lawful «record» ≡ true }
         ensures is { result ≡ open_part self.now.minutes «record» }
@@ -60,6 +60,7 @@ impl Day {
         ensures { result ≡ open_worth self.now }
     {
         let mut sum = 0;
+        // A loop, since a `sum()` of signed numbers has no bound that a proof knows.
         for record in self.intervals() {
             sum += self.open_part(*record);
         }

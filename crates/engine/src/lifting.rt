@@ -1,4 +1,4 @@
-// A refusal from below as one of a settling call: what `?` makes of it.
+// A refusal from below as one of a settling call: what `?` makes of it. By hand, since the `From` that thiserror writes has no contract.
 ghost use Rattle.std.specs.Prelude.{◌≡◌};
 ghost use Rattle.engine.specs.declared.refusal.Refusal.TheVariants.{Market, Posting};
 ghost use Rattle.engine.specs.Settling.{lifted_by};

@@ -6,6 +6,8 @@ ghost use Rattle.entries.specs.Sheet.{of_interval};
 use market::entry::Entry;
 use market::records::{Book, Side};
 
+// That the book has the place stays a clause of what reads by it: it speaks of book and place together.
+
 /// Whose steps they are.
 #[derive(Clone, Copy)]
 pub(crate) struct Party {

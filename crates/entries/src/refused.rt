@@ -11,6 +11,7 @@ pub enum SettleRefused {
     Posting(PostRefused),
 }
 
+// By hand: the `From` that thiserror writes has no contract, and the clauses name the refusal.
 impl From<Refusal> for SettleRefused {
     ghost use Rattle.std.specs.Prelude.{◌≡◌};
     ghost use Rattle.entries.specs.declared.refused.SettleRefused.TheVariants.{Market};

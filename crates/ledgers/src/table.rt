@@ -58,6 +58,7 @@ fn open_count(records: &[Account]) -> usize
     ensures few { result ≤ 500 }
 {
     let few = &records[..records.len().min(MOST)];
+    // Not a `take_while`: what a record has to exceed changes with each.
     let mut least = 0;
     for (open, account) in few.iter().enumerate() {
         if !is_lawful(least, *account) {

@@ -49,6 +49,8 @@ pub enum Mark {
     Closed,
 }
 
+// The remainder stands beside the mark and not in its cases: three of the four would carry the same number, and whoever reads the
+// remainder would have to match on all of them.
 /// One interval of a day.
 #[derive(Clone, Copy, PartialEq, Eq, Debug)]
 pub struct Interval {
@@ -95,6 +97,8 @@ pub struct Block {
     pub account: i32,
 }
 
+// Book and fills are memory that the caller lends, list by list. They are two values: a book is also entered, held and checked without
+// a paper, and several papers are judged on one book.
 /// The orders and the blocks of a book, in the caller's memory.
 #[derive(Clone, Copy)]
 pub struct Book<'a> {

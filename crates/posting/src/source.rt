@@ -4,6 +4,7 @@ ghost use Rattle.posting.specs.declared.posting.Posting.{Posting};
 
 use super::Posting;
 
+// Read by place and not by an iterator: what was posted is taken back through the same places, in the other order.
 /// Postings that are read by place, in order; at a place there may be nothing to post.
 pub trait Source {
     // How many places there are.

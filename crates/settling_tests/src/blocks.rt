@@ -1,9 +1,11 @@
 // A block over several intervals, settled in each of them.
 use crate::days::{passed, settle_and_note};
+use cuts::candidates::{BlockCandidate, Lists, OrderCandidate};
 use engine::book::Passed;
 use engine::book::calls::start;
 use engine::day::Day;
 use engine::refusal::Refusal;
+use entries::Work;
 use ledger::Account;
 use ledgers::Table;
 use market::records::{Block, Book, Fills, Side};
@@ -65,18 +67,32 @@ fn a_block_is_settled_in_each_of_its_intervals(rt: HostRuntime) -> Result<(), Fa
     let mut table = Table {
         records: &mut records,
     };
+    let lists = Lists {
+        orders: &mut [OrderCandidate::BLANK; 1],
+        blocks: &mut [BlockCandidate::BLANK; 1],
+    };
+    let mut work = Work {
+        numbers: &mut [0; 1],
+        lists,
+    };
     assert_eq!(rt;
-        settle_and_note::<_, 1>(&passed, &mut day, BOOK, FILLS, &mut sheet, &mut table, 2),
+        settle_and_note(
+            &passed, &mut day, BOOK, FILLS, &mut sheet, &mut work, &mut table, 2
+        ),
         Ok(0)
     );
     assert_eq!(rt; sheet, [7, 10, 7]);
     assert_eq!(rt;
-        settle_and_note::<_, 1>(&passed, &mut day, BOOK, FILLS, &mut sheet, &mut table, 1),
+        settle_and_note(
+            &passed, &mut day, BOOK, FILLS, &mut sheet, &mut work, &mut table, 1
+        ),
         Ok(0)
     );
     assert_eq!(rt; sheet, [10, 10, 7]);
     assert_eq!(rt;
-        settle_and_note::<_, 1>(&passed, &mut day, BOOK, FILLS, &mut sheet, &mut table, 1),
+        settle_and_note(
+            &passed, &mut day, BOOK, FILLS, &mut sheet, &mut work, &mut table, 1
+        ),
         Err(Refusal::NotUnsettled)
     );
     assert_eq!(rt; (records[0].balance, records[1].balance), (-8_000, 8_000));

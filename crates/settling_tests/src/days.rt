@@ -93,29 +93,43 @@ pub(crate) fn passed_day(
     Ok((day, passed))
 }
 
-/// Settles an interval with working slices of N places, and notes its remainder, which is never refused: it was just handed over.
-pub(crate) fn settle_and_note<L: Ledger, const N: usize>(
+/// Settles an interval, and notes its remainder, which is never refused: it was just handed over.
+pub(crate) fn settle_and_note<L: Ledger>(
+    passed: &Passed,
+    day: &mut Day,
+    book: Book<'_>,
+    fills: Fills<'_>,
+    sheet: &mut [u32],
+    work: &mut Work<'_>,
+    ledger: &mut L,
+    interval: i32,
+) -> Result<i32, Refusal> {
+    let remainder = passed.settle(day, book, fills, sheet, work, ledger, interval)?;
+    let steps = remainder.steps();
+    match day.note(remainder) {
+        Ok(()) => Ok(steps),
+        Err(_) => unreachable(),
+    }
+}
+
+/// Settles the interval of a day with three entries, and notes its remainder.
+pub(crate) fn settle_three<L: Ledger>(
     passed: &Passed,
     day: &mut Day,
     book: Book<'_>,
     fills: Fills<'_>,
     sheet: &mut [u32],
     ledger: &mut L,
-    interval: i32,
 ) -> Result<i32, Refusal> {
-    let mut work = Work {
-        numbers: &mut [0; N],
-        lists: Lists {
-            orders: &mut [OrderCandidate::BLANK; N],
-            blocks: &mut [BlockCandidate::BLANK; N],
-        },
+    let lists = Lists {
+        orders: &mut [OrderCandidate::BLANK; 3],
+        blocks: &mut [BlockCandidate::BLANK; 3],
     };
-    let remainder = passed.settle(day, book, fills, sheet, &mut work, ledger, interval)?;
-    let steps = remainder.steps();
-    match day.note(remainder) {
-        Ok(()) => Ok(steps),
-        Err(_) => unreachable(),
-    }
+    let mut work = Work {
+        numbers: &mut [0; 3],
+        lists,
+    };
+    settle_and_note(passed, day, book, fills, sheet, &mut work, ledger, 1)
 }
 
 /// What a day that knows nothing of a remainder answers to it: the number with which it refuses to book it, and to note it. The
@@ -130,12 +144,13 @@ pub(crate) fn offered_elsewhere<L: Ledger>(
 ) -> Result<(u32, u32), Refusal> {
     let orders = orders(price);
     let (book, fills) = only_orders(&orders, &FILLS);
+    let lists = Lists {
+        orders: &mut [OrderCandidate::BLANK; 3],
+        blocks: &mut [BlockCandidate::BLANK; 3],
+    };
     let mut work = Work {
         numbers: &mut [0; 3],
-        lists: Lists {
-            orders: &mut [OrderCandidate::BLANK; 3],
-            blocks: &mut [BlockCandidate::BLANK; 3],
-        },
+        lists,
     };
     let remainder = passed.settle(day, book, fills, sheet, &mut work, ledger, 1)?;
     let Err(returned) = other.book(ledger, remainder) else {

@@ -1,5 +1,5 @@
 // What settling leaves, accepted and refused.
-use crate::days::{FILLS, offered_elsewhere, only_orders, orders, passed_day, settle_and_note};
+use crate::days::{FILLS, offered_elsewhere, only_orders, orders, passed_day, settle_three};
 use engine::refusal::Refusal;
 use ledger::{Account, PostRefused};
 use ledgers::Table;
@@ -44,7 +44,7 @@ fn amounts(rt: HostRuntime) -> Result<(), Fail> {
         let orders = orders(price);
         let (book, fills) = only_orders(&orders, &FILLS);
         assert_eq!(rt;
-            settle_and_note::<_, 3>(&passed, &mut day, book, fills, &mut sheet, &mut table, 1),
+            settle_three(&passed, &mut day, book, fills, &mut sheet, &mut table),
             Ok(0)
         );
         assert_eq!(rt; sheet, [100, 23, 120]);
@@ -90,7 +90,7 @@ fn refused_postings(rt: HostRuntime) -> Result<(), Fail> {
         let orders = orders(5_000);
         let (book, fills) = only_orders(&orders, &FILLS);
         assert_eq!(rt;
-            settle_and_note::<_, 3>(&passed, &mut day, book, fills, &mut sheet, &mut table, 1),
+            settle_three(&passed, &mut day, book, fills, &mut sheet, &mut table),
             Err(Refusal::Posting(refused))
         );
         assert_eq!(rt; sheet, [7, 7, 7]);
@@ -113,7 +113,7 @@ fn a_negative_gap_cuts_buys(rt: HostRuntime) -> Result<(), Fail> {
     let orders = orders(5_000);
     let (book, fills) = only_orders(&orders, &fills);
     assert_eq!(rt;
-        settle_and_note::<_, 3>(&passed, &mut day, book, fills, &mut sheet, &mut table, 1),
+        settle_three(&passed, &mut day, book, fills, &mut sheet, &mut table),
         Ok(0)
     );
     assert_eq!(rt; sheet, [100, 0, 96]);

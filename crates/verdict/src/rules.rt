@@ -68,6 +68,7 @@ fn is_missed(side: Side, limit: i32, price: i32) -> bool
     }
 }
 
+// Not `is_missed` with its numbers exchanged: the two rules are read apart, the limit first.
 fn is_beaten(side: Side, limit: i32, price: i32) -> bool
     ensures { result ≡ beats side limit price }
 {
@@ -122,6 +123,7 @@ fn total_price(intervals: &[Interval]) -> i64
     ensures { result ≡ price_sum intervals.now }
 {
     let mut sum = 0;
+    // A loop, since a `sum()` of signed numbers has no bound that a proof knows.
     for interval in intervals {
         sum += i64::from(interval.price);
     }

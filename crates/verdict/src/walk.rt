@@ -83,6 +83,7 @@ pub(crate) fn sum_of<T, M: Amount<T>>(amounts: &M, entries: &[T], fills: &[u32])
     ensures small { Within (40000000000000 * 1024) result }
 {
     let mut sum = 0;
+    // A loop, since a `sum()` of signed numbers has no bound that a proof knows.
     for (x, fill) in entries.iter().zip(fills) {
         sum += amounts.amount(x, *fill);
     }

@@ -60,12 +60,13 @@ pub(crate) fn show_settling(
     let mut numbers = vec![in heap; 0; entries]?;
     let mut orders = vec![in heap; OrderCandidate::BLANK; entries]?;
     let mut blocks = vec![in heap; BlockCandidate::BLANK; entries]?;
+    let lists = Lists {
+        orders: &mut orders,
+        blocks: &mut blocks,
+    };
     let mut work = Work {
         numbers: &mut numbers,
-        lists: Lists {
-            orders: &mut orders,
-            blocks: &mut blocks,
-        },
+        lists,
     };
     let mut firms = FIRMS;
     let mut ledger = open_ledger(&mut firms);

@@ -17,8 +17,10 @@ impl Day {
     pub(crate) fn shows_out(&self, remainder: &Remainder) -> bool
         ensures { result ≡ shows_out self.now remainder.now.interval remainder.now.steps }
     {
-        self.interval(remainder.interval)
-            .is_some_and(|record| record.mark == Mark::Out && record.remainder == remainder.steps)
+        let Some(record) = self.interval(remainder.interval) else {
+            return false;
+        };
+        record.mark == Mark::Out && record.remainder == remainder.steps
     }
 
     pub(crate) fn put_state(&mut self, interval: i32, mark: Mark, remainder: i32)
