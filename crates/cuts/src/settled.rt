@@ -13,7 +13,6 @@ use crate::numbers::{net, write_rounded};
 use crate::paper::Paper;
 use crate::rank::Candidate;
 use crate::stage::run_turns;
-use market::bounds::{MOST_BLOCKS, MOST_ORDERS};
 use market::records::{Block, Book, Fills, Order};
 
 // One stage: its candidates in rank order, then their turns.
@@ -63,8 +62,7 @@ fn sizes_fit(book: Book<'_>, fills: Fills<'_>, numbers: usize) -> bool
 {
     let orders = book.orders.len();
     let blocks = book.blocks.len();
-    orders <= MOST_ORDERS
-        && blocks <= MOST_BLOCKS
+    book.is_within_limits()
         && fills.orders.len() == orders
         && fills.blocks.len() == blocks
         && orders + blocks <= numbers

@@ -21,7 +21,7 @@ use Rattle.engine.specs.declared.refusal.Refusal.{Refusal}
 use Rattle.engine.specs.declared.remainder.Remainder.{Remainder}
 use Rattle.engine.specs.declared.refusal.Refusal.TheVariants.{Market, NotUnsettled}
 use Rattle.engine.specs.Days.{Recorded, place_of, record_of, with_state, conditions_of}
-use Rattle.market.specs.First.{then}
+use Rattle.std.specs.Result.{result_and}
 use Rattle.engine.specs.Marks.{is_unsettled}
 use Rattle.engine.specs.Books.{holds}
 use Rattle.engine.specs.Marks.{Handed}
@@ -54,7 +54,7 @@ ok_gives chk a new old p q = ap (λ (k : Result Unit MarketRefusal). if_taken k 
 module _ (p : Passed) (d : Day) (os : List Order) (fs : List ℕ) (bs : List Block) (gs : List ℕ) (i : ℤ) (l : Lengths) (x : Settlement) (e : x ≡ asked p d os fs bs gs i) where
   -- what settling answers once it is ready
   called : (m : List Account) → ready p d os bs i ≡ Ok tt → settle_answer p d os fs bs gs i l m ≡ lifted (slices_answer (asked p d os fs bs gs i) l m)
-  called m ok = ap (λ (r : Result Unit Refusal). then r (lifted (slices_answer (asked p d os fs bs gs i) l m))) ok
+  called m ok = ap (λ (r : Result Unit Refusal). result_and r (lifted (slices_answer (asked p d os fs bs gs i) l m))) ok
 
   -- a refusal of settling over slices leaves all as it was
   pub refused : (m m' : List Account) (s s' : List ℕ) (f : SettleRefused) → ready p d os bs i ≡ Ok tt

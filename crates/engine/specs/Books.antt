@@ -4,7 +4,8 @@ use Rattle.market.specs.declared.records.Order.{Order}
 use Rattle.market.specs.declared.records.Block.{Block}
 use Rattle.market.specs.declared.refusal.Refusal.{Refusal}
 use Rattle.market.specs.declared.refusal.Refusal.TheVariants.{Full}
-use Rattle.market.specs.First.{tests, then}
+use Rattle.market.specs.First.{tests}
+use Rattle.std.specs.Result.{result_and}
 use Rattle.market.specs.Bounds.{start_bounds}
 use Rattle.engine.specs.declared.day.Day.{Day}
 use Rattle.engine.specs.declared.book.Counts.{Counts}
@@ -28,17 +29,12 @@ room count memory most = tests ((nat_lt count memory && nat_lt count most, Full)
 
 -- the number of the record that is entered after count others, or why it is not
 abbrev pub entry : Result Unit Refusal → ℕ → ℕ → ℕ → Result ℕ Refusal
-entry bounds count memory most = then bounds (then (room count memory most) (Ok (count + 1)))
+entry bounds count memory most = result_and bounds (result_and (room count memory most) (Ok (count + 1)))
 
 -- what entering leaves of a count and a memory: one record more, or after a refusal both as they were
 abbrev pub Entered : {X : Type 0} → Result ℕ Refusal → X → ℕ → List X → ℕ → List X → Type 0
 Entered (Ok number) x count memory count' memory' = (count' ≡ number) × (memory' ≡ slice_set memory count x)
 Entered (Err e) x count memory count' memory' = (count' ≡ count) × (memory' ≡ memory)
-
--- the count after entering
-abbrev pub taken : Result ℕ Refusal → ℕ → ℕ
-taken (Ok number) count = number
-taken (Err e) count = count
 
 -- neither memory is shorter than its count
 abbrev pub holds : Counts → List Order → List Block → Bool

@@ -4,7 +4,8 @@ use Rattle.market.specs.declared.records.Order.{Order}
 use Rattle.market.specs.declared.records.Block.{Block}
 use Rattle.market.specs.declared.refusal.Refusal.{Refusal}
 use Rattle.market.specs.declared.refusal.Refusal.TheVariants.{Short}
-use Rattle.market.specs.First.{tests, then}
+use Rattle.market.specs.First.{tests}
+use Rattle.std.specs.Result.{result_and}
 use Rattle.verdict.specs.Balance.{welfare}
 use Rattle.verdict.specs.Verdict.{verdict_of}
 use Rattle.verdict.specs.Passes.{LawfulBook, Passes}
@@ -25,7 +26,7 @@ memory_ok c os fs bs gs =
 -- what judging answers: 11 for the memory, then the verdict on the counted records
 abbrev pub judge_answer : Closed → Day → List Order → List ℕ → List Block → List ℕ → Result ℤ Refusal
 judge_answer c d os fs bs gs =
-    then (tests ((memory_ok c os fs bs gs, Short) ∷ [])) (verdict_of (records d) (take c.counts.orders os) fs (take c.counts.blocks bs) gs)
+    result_and (tests ((memory_ok c os fs bs gs, Short) ∷ [])) (verdict_of (records d) (take c.counts.orders os) fs (take c.counts.blocks bs) gs)
 
 -- no memory is shorter than its count, and each list of fills is as long as its count
 pub record MemoryFits (c : Closed) (os : List Order) (fs : List ℕ) (bs : List Block) (gs : List ℕ) : Type 0 where

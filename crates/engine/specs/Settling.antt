@@ -19,7 +19,8 @@ use Rattle.engine.specs.declared.refusal.Refusal.TheVariants.{Market, Posting as
 use Rattle.engine.specs.declared.remainder.Remainder.{Remainder}
 use Rattle.engine.specs.Books.{holds}
 use Rattle.engine.specs.Days.{Recorded, place_of, record_of, with_state, conditions_of}
-use Rattle.market.specs.First.{tests, then}
+use Rattle.market.specs.First.{tests}
+use Rattle.std.specs.Result.{result_and}
 use Rattle.engine.specs.Marks.{is_unsettled, Handed}
 
 -- a refusal of settling over slices, as one of the call's
@@ -51,7 +52,7 @@ module _ (p : Passed) (d : Day) (os : List Order) (fs : List ℕ) (bs : List Blo
 
   -- what settling answers: the foremost refusal, or the remainder
   abbrev pub settle_answer : Lengths → List Account → Result ℤ Refusal
-  settle_answer l m = then (ready p d os bs i) (lifted (slices_answer asked l m))
+  settle_answer l m = result_and (ready p d os bs i) (lifted (slices_answer asked l m))
 
   -- what settling leaves: the remainder in hand, the interval out with it, its numbers in the sheet and its postings in the
   -- accounts; or all as it was

@@ -6,7 +6,8 @@ use Rattle.market.specs.declared.records.Book.{Book}
 use Rattle.market.specs.declared.records.Fills.{Fills}
 use Rattle.market.specs.declared.refusal.Refusal.{Refusal}
 use Rattle.market.specs.declared.refusal.Refusal.TheVariants.{NoInterval, Short}
-use Rattle.market.specs.First.{tests, then}
+use Rattle.market.specs.First.{tests}
+use Rattle.std.specs.Result.{result_and}
 use Rattle.verdict.specs.Verdict.{paper_checks}
 use Rattle.cuts.specs.Settled.{settled_numbers, remainder_of, SameLists}
 use Rattle.ledger.specs.declared.account.Account.{Account}
@@ -86,7 +87,7 @@ room_ok o b n l = few o b n && (nat_le (o + b * n) l.sheet && work_ok (o + b) l.
 -- 3, 11, 12, 13: what is looked at before an interval is settled
 unfoldable pub settle_checks : Settlement → Lengths → Result Unit Refusal
 settle_checks x l =
-    then (tests ((interval_ok x.intervals x.interval, NoInterval) ∷ (room_ok (length x.orders) (length x.blocks) x.intervals l, Short) ∷ []))
+    result_and (tests ((interval_ok x.intervals x.interval, NoInterval) ∷ (room_ok (length x.orders) (length x.blocks) x.intervals l, Short) ∷ []))
     (paper_checks x.intervals x.orders x.order_fills x.blocks x.block_fills)
 
 -- a book with lawful fills, and working slices of these lengths

@@ -4,7 +4,8 @@ ghost use Rattle.entries.specs.Settles.{settlement_of, lengths, interval_ok, few
 
 use super::task::Task;
 use super::work::Work;
-use market::bounds::{MOST_BLOCKS, MOST_INTERVALS, MOST_ORDERS};
+use market::bounds::MOST_INTERVALS;
+use market::records::Book;
 use market::refusal::Refusal;
 use verdict::check_paper;
 
@@ -16,20 +17,22 @@ fn has_interval(intervals: usize, interval: u32) -> bool
     (FIRST_INTERVAL..=intervals).contains(&(interval as usize))
 }
 
-fn are_few(orders: usize, blocks: usize, intervals: usize) -> bool
-    ensures { result ≡ few orders blocks intervals }
+fn are_few(book: Book<'_>, intervals: usize) -> bool
+    ensures { result ≡ few (length book.entry.orders.now) (length book.entry.blocks.now) intervals }
 {
-    orders <= MOST_ORDERS && blocks <= MOST_BLOCKS && intervals <= MOST_INTERVALS
+    book.is_within_limits() && intervals <= MOST_INTERVALS
 }
 
 impl Work<'_> {
     // Whether these slices and a sheet suffice.
-    fn suffices(&self, sheet: &[u32], orders: usize, blocks: usize, intervals: usize) -> bool
-        ensures { result ≡ room_ok orders blocks intervals (lengths sheet.now self.now) }
+    fn suffices(&self, sheet: &[u32], book: Book<'_>, intervals: usize) -> bool
+        ensures { result ≡ room_ok (length book.entry.orders.now) (length book.entry.blocks.now) intervals (lengths sheet.now self.now) }
     {
-        if !are_few(orders, blocks, intervals) {
+        if !are_few(book, intervals) {
             return false;
         }
+        let orders = book.orders.len();
+        let blocks = book.blocks.len();
         let entries = orders + blocks;
         orders + blocks * intervals <= sheet.len()
             && entries <= self.numbers.len()
@@ -48,12 +51,7 @@ impl Task<'_> {
         if !has_interval(self.intervals, self.interval) {
             return Err(Refusal::NoInterval);
         }
-        if !work.suffices(
-            sheet,
-            self.book.orders.len(),
-            self.book.blocks.len(),
-            self.intervals,
-        ) {
+        if !work.suffices(sheet, self.book, self.intervals) {
             return Err(Refusal::Short);
         }
         check_paper(self.intervals, self.book, self.fills)

@@ -1,5 +1,5 @@
 -- The bounds of entry: what the numbers of a day, of an interval's terms, of an order and of a block may be.
-use Rattle.std.specs.Prelude.{ℕ, Bool, ◌&&◌, ◌||◌, List, [], ◌∷◌, ℤ, pos, ◌-ℤ◌, ◌*ℤ◌, neg_ℤ, Ok, Err, Result, int_le, int_lt}
+use Rattle.std.specs.Prelude.{ℕ, Bool, ◌&&◌, ◌||◌, List, [], ◌∷◌, ℤ, pos, ◌-ℤ◌, ◌*ℤ◌, neg_ℤ, Ok, Err, Result, int_le, int_lt, nat_le}
 use Rattle.market.specs.declared.records.Order.{Order}
 use Rattle.market.specs.declared.records.Block.{Block}
 use Rattle.market.specs.declared.refusal.Refusal.{Refusal}
@@ -51,6 +51,10 @@ least_ok p = within_range (pos 1) (pos 100) p
 -- the intervals from a first to a last
 abbrev pub span_ok : ℕ → ℤ → ℤ → Bool
 span_ok n first last = in_day n first && (in_day n last && int_le first last)
+
+-- so many orders and blocks as a book can have
+abbrev pub limits_ok : ℕ → ℕ → Bool
+limits_ok o b = nat_le o 1024 && nat_le b 64
 
 -- 1, 2: what a day may be started with
 abbrev pub start_bounds : ℤ → ℤ → Result Unit Refusal

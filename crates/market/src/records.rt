@@ -1,7 +1,9 @@
 // The records that a day is made of. They are plain: the caller's memory can hold any numbers, and judging looks at it.
-ghost use Rattle.std.specs.Prelude.{◌≡◌};
+ghost use Rattle.std.specs.Prelude.{◌≡◌, length};
+ghost use Rattle.market.specs.Bounds.{limits_ok};
 ghost use Rattle.market.specs.Signed.{signed, Within};
 
+use super::bounds::{MOST_BLOCKS, MOST_ORDERS};
 use std::fmt;
 
 /// Which way an order or a block trades.
@@ -104,6 +106,15 @@ pub struct Block {
 pub struct Book<'a> {
     pub orders: &'a [Order],
     pub blocks: &'a [Block],
+}
+
+impl Book<'_> {
+    /// Whether a book can have so many orders and blocks.
+    pub fn is_within_limits(self) -> bool
+        ensures { result ≡ limits_ok (length self.entry.orders.now) (length self.entry.blocks.now) }
+    {
+        self.orders.len() <= MOST_ORDERS && self.blocks.len() <= MOST_BLOCKS
+    }
 }
 
 /// A paper on a book: a fill for each order, and one for each block, in thousandths of a MW.

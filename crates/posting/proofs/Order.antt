@@ -1,5 +1,5 @@
 -- Postings one after another, and taken back.
-use Rattle.std.proofs.Common.{◌≡◌, ℕ, zero, suc, ◌+◌, ◌-◌, ◌<◌, List, [], ◌∷◌, ◌++◌, length, take, slice_get, ◌+ℤ◌, neg_ℤ, Some, None, Ok, Err, Option, Result, sym, refl, ap, ◌∙◌, subst, ⊎_elim, add-zero, add-suc, add-one, arith}
+use Rattle.std.proofs.Common.{◌≡◌, ℕ, IfSome, zero, suc, ◌+◌, ◌-◌, ◌<◌, List, [], ◌∷◌, ◌++◌, length, take, slice_get, ◌+ℤ◌, neg_ℤ, Some, None, Ok, Err, Option, Result, sym, refl, ap, ◌∙◌, subst, ⊎_elim, add-zero, add-suc, add-one, arith}
 use Rattle.std.specs.Result.{OnErr, result_and}
 use Rattle.std.proofs.lemmas.Bool.{cases_eq}
 use Rattle.std.proofs.lemmas.Int.{ints}
@@ -10,7 +10,7 @@ use Rattle.ledger.specs.Model.{answer, posted, after, Lawful, total}
 use Rattle.ledger.proofs.Posting.{lawful-posted, taken_back, taken_small, total-posted}
 use Rattle.posting.specs.declared.posting.Posting.{Posting}
 use Rattle.posting.specs.Laws.{Stopped, Tells, Summed}
-use Rattle.posting.specs.Postings.{one, listed, posted_all, answers, left, AllTaken, opposed, undone, SmallAt, amounts}
+use Rattle.posting.specs.Postings.{one, listed, posted_all, answers, left, AllTaken, opposed, undone, Small, amounts}
 
 pub posted_push : (m : List Account) (ps : List Posting) (p : Posting) → posted_all m (ps ++ p ∷ []) ≡ posted (posted_all m ps) p.account p.amount
 posted_push m [] p = refl
@@ -104,17 +104,17 @@ module _ (f : ℕ → Option Posting) where
   split_at i zero = rw add-zero (sym (append-nil (listed f i)))
   split_at i (suc d) = rw add-suc (ap (λ l. l ++ one (f (i + d))) (split_at i d) ∙ append_assoc (listed f i) (rest_from i d) (one (f (i + d))))
 
-  smalls_last : (m : List Account) (ps : List Posting) (o : Option Posting) → Lawful m → AllTaken m (ps ++ one o) → SmallAt o
+  smalls_last : (m : List Account) (ps : List Posting) (o : Option Posting) → Lawful m → AllTaken m (ps ++ one o) → IfSome o Small
   smalls_last m ps None l t = tt
   smalls_last m ps (Some p) l t =
       let s = taken_small (posted_all m ps) p.account p.amount (taken-lawful m ps l (taken_front m ps (p ∷ []) t)) (taken_last m ps p t) in
       record { low = s.0; high = s.1 }
 
-  pub smalls : (m : List Account) (n : ℕ) → Lawful m → AllTaken m (listed f n) → (k : ℕ) → k < n → SmallAt (f k)
+  pub smalls : (m : List Account) (n : ℕ) → Lawful m → AllTaken m (listed f n) → (k : ℕ) → k < n → IfSome (f k) Small
   smalls m zero l t k h = absurd (omega arith)
   smalls m (suc n) l t k h =
       ⊎_elim
-      (λ e. subst (λ j. SmallAt (f j)) (sym e) (smalls_last m (listed f n) (f n) l t))
+      (λ e. subst (λ j. IfSome (f j) Small) (sym e) (smalls_last m (listed f n) (f n) l t))
       (λ ne. smalls m n l (taken_front m (listed f n) (one (f n)) t) k (omega arith))
       (cases_eq k n)
 

@@ -50,10 +50,6 @@ pub record Small (p : Posting) : Type 0 where
   pub low : neg_ℤ (pos 20000000000000000) ≤ℤ p.amount
   pub high : p.amount ≤ℤ pos 20000000000000000
 
-abbrev pub SmallAt : Option Posting → Type 0
-SmallAt None = Unit {0}
-SmallAt (Some p) = Small p
-
 -- the sum of the amounts
 abbrev pub amounts : List Posting → ℤ
 amounts [] = pos 0

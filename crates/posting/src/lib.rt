@@ -1,8 +1,8 @@
 // Postings in order, all or none, over any ledger.
 #![tactic(auto)]
 
-ghost use Rattle.std.specs.Prelude.{◌≡◌, ℕ, ◌<◌, OnErr};
-ghost use Rattle.posting.specs.Postings.{one, listed, answers, left, undone, SmallAt};
+ghost use Rattle.std.specs.Prelude.{◌≡◌, ℕ, ◌<◌, IfSome, OnErr};
+ghost use Rattle.posting.specs.Postings.{one, listed, answers, left, undone, Small};
 ghost use Rattle.posting.specs.Laws.{Summed};
 
 mod laws;
@@ -60,7 +60,7 @@ fn post_at<L: Ledger, S: Source>(
 
 /// Takes back what stands at the first places, last first.
 fn take_back<L: Ledger, S: Source>(ledger: &mut L, source: &S, places: usize)
-    requires { (k : ℕ) → k < places → SmallAt (S.Source.slot source.now k) }
+    requires { (k : ℕ) → k < places → IfSome (S.Source.slot source.now k) Small }
     ensures posts { L.Accounts.model ledger.new ≡ undone (L.Accounts.model ledger.old) (S.Source.slot source.now) places }
     ensures keeps { L.Ledger.kept ledger.old ledger.new }
 {

@@ -10,7 +10,8 @@ use Rattle.market.specs.declared.records.Interval.{Interval}
 use Rattle.market.specs.declared.records.Mark.TheVariants.{Out}
 use Rattle.market.specs.Blank.{fresh}
 use Rattle.market.specs.Bounds.{same, in_day}
-use Rattle.market.specs.First.{tests, then}
+use Rattle.market.specs.First.{tests}
+use Rattle.std.specs.Result.{result_and}
 use Rattle.market.proofs.Facts.{between_two, same_yes}
 use Rattle.engine.specs.declared.day.Day.{Day}
 use Rattle.engine.specs.declared.book.Passed.{Passed}
@@ -24,7 +25,7 @@ use Rattle.engine.specs.Settling.{Settling, ready, asked}
 use Rattle.engine.proofs.Settlings.{ready_in}
 
 -- an answer that is no refusal: the check before it refused nothing
-first_ok : (a : Result Unit Refusal) (b : Result ℤ Refusal) (z : ℤ) → then a b ≡ Ok z → a ≡ Ok tt
+first_ok : (a : Result Unit Refusal) (b : Result ℤ Refusal) (z : ℤ) → result_and a b ≡ Ok z → a ≡ Ok tt
 first_ok (Ok u) b z e = refl
 first_ok (Err f) b z e = let n : ◌≡◌ {A = ℕ} 0 1 = cc in absurd (omega arith)
 

@@ -1,7 +1,7 @@
 -- The first refusal of a walk stands at the lowest entry that is refused.
 use Rattle.std.proofs.Common.{◌≡◌, ℕ, zero, suc, ◌+◌, ◌<◌, List, [], ◌∷◌, length, get_or, Ok, Err, Result, refl, ap, ◌∙◌, arith}
 use Rattle.market.specs.declared.refusal.Refusal.{Refusal}
-use Rattle.market.specs.First.{then}
+use Rattle.std.specs.Result.{result_and}
 use Rattle.verdict.specs.Walks.{first_in, first_filled}
 use Rattle.std.proofs.lemmas.Bool.{true≢false}
 use Rattle.verdict.proofs.Firsts.{in_filled}
@@ -21,7 +21,7 @@ module _ {X : Type 0} (check : X → ℕ → ℕ → Result Unit Refusal) (d : X
   earlier x xs f fs k i q h zero l = ap (check x f) (omega arith) ∙ q
   earlier x xs f fs k i q h (suc j) l = ap (check (get_or xs j d) (get_or fs j 0)) (omega arith) ∙ h j (omega arith)
 
-  step : (x : X) (xs : List X) (f : ℕ) (fs : List ℕ) (k : ℕ) (e : Refusal) (r : Result Unit Refusal) → check x f k ≡ r → then r (first_filled check xs fs (k + 1)) ≡ Err e
+  step : (x : X) (xs : List X) (f : ℕ) (fs : List ℕ) (k : ℕ) (e : Refusal) (r : Result Unit Refusal) → check x f k ≡ r → result_and r (first_filled check xs fs (k + 1)) ≡ Err e
       → (first_filled check xs fs (k + 1) ≡ Err e → Lowest xs fs (k + 1) e) → Lowest (x ∷ xs) (f ∷ fs) k e
   step x xs f fs k e (Ok u) q p ih =
       let t = ih p in

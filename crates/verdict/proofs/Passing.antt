@@ -8,8 +8,8 @@ use Rattle.market.specs.declared.records.Interval.{Interval}
 use Rattle.market.specs.declared.refusal.Refusal.{Refusal}
 use Rattle.market.specs.declared.refusal.Refusal.TheVariants.{Short, OutsideBounds, OverQuantity, ShouldBeEmpty, ShouldBeFull, BelowLeast, BlockPrice, Unbalanced}
 use Rattle.market.specs.Blank.{no_order, no_block, fresh}
-use Rattle.verdict.specs.Each.{Each}
-use Rattle.market.specs.First.{then}
+use Rattle.std.specs.List.{AllZip}
+use Rattle.std.specs.Result.{result_and}
 use Rattle.verdict.specs.Walks.{first_in, first_filled}
 use Rattle.market.specs.Bounds.{same, order_bounds, block_bounds, outside}
 use Rattle.verdict.specs.Rules.{price_at, misses, beats, full, within, thousandths, enough, quantity_rule, order_price, block_price}
@@ -78,7 +78,7 @@ module _ (day : List Interval) (os : List Order) (fs : List ℕ) (bs : List Bloc
       (lawful_back (order_bounds n) (LawfulOrder n) (order_back n) os fs 1 z.sized.orders l.orders)
       (lawful_back (block_bounds n) (LawfulBlock n) (block_back n) bs gs (next os) z.sized.blocks l.blocks)
 
-  orders_within : Fits day os fs bs gs → first_filled (λ o. quantity_rule o.quantity) os fs 1 ≡ Ok tt → Each (λ o. WithinQuantity o.quantity) os fs
+  orders_within : Fits day os fs bs gs → first_filled (λ o. quantity_rule o.quantity) os fs 1 ≡ Ok tt → AllZip (λ o. WithinQuantity o.quantity) os fs
   orders_within z e = each_out (λ o. quantity_rule o.quantity) (λ o. WithinQuantity o.quantity) (λ o f j. quantity_out o.quantity f j) os fs 1 z.sized.orders e
 
   within_out : Fits day os fs bs gs → quantities os fs bs gs ≡ Ok tt → WithinBook os fs bs gs
@@ -92,15 +92,15 @@ module _ (day : List Interval) (os : List Order) (fs : List ℕ) (bs : List Bloc
       (each_back (λ o. quantity_rule o.quantity) (λ o. WithinQuantity o.quantity) (λ o f j. quantity_back o.quantity f j) os fs 1 w.orders)
       (each_back (λ b. quantity_rule b.quantity) (λ b. WithinQuantity b.quantity) (λ b f j. quantity_back b.quantity f j) bs gs (next os) w.blocks)
 
-  orders_meet : Fits day os fs bs gs → first_filled (order_price day) os fs 1 ≡ Ok tt → Each (OrderMeetsPrice day) os fs
+  orders_meet : Fits day os fs bs gs → first_filled (order_price day) os fs 1 ≡ Ok tt → AllZip (OrderMeetsPrice day) os fs
   orders_meet z e = each_out (order_price day) (OrderMeetsPrice day) (order_price_out day) os fs 1 z.sized.orders e
 
-  prices_out : Fits day os fs bs gs → prices day os fs bs gs ≡ Ok tt → Each (OrderMeetsPrice day) os fs × Each (BlockMeets day) bs gs
+  prices_out : Fits day os fs bs gs → prices day os fs bs gs ≡ Ok tt → AllZip (OrderMeetsPrice day) os fs × AllZip (BlockMeets day) bs gs
   prices_out z e =
       let p = then_ok (first_filled (order_price day) os fs 1) (first_filled (block_price day) bs gs (next os)) tt e in
       (orders_meet z p.0, each_out (block_price day) (BlockMeets day) (block_price_out day) bs gs (next os) z.sized.blocks p.1)
 
-  prices_back : Each (OrderMeetsPrice day) os fs → Each (BlockMeets day) bs gs → prices day os fs bs gs ≡ Ok tt
+  prices_back : AllZip (OrderMeetsPrice day) os fs → AllZip (BlockMeets day) bs gs → prices day os fs bs gs ≡ Ok tt
   prices_back o b =
       then_both (first_filled (order_price day) os fs 1) _ _ (each_back (order_price day) (OrderMeetsPrice day) (order_price_back day) os fs 1 o) (each_back (block_price day) (BlockMeets day) (block_price_back day) bs gs (next os) b)
 
@@ -180,7 +180,7 @@ module _ (day : List Interval) (os : List Order) (fs : List ℕ) (bs : List Bloc
         (λ r. broken_as (ShouldBeFull (1 + i)) r.2 (order_not_full l w i record { there = t.there; breaks = (empty_out o.limit p f o.side r.0, fails (not (beats o.side o.limit p) || full o.quantity f) r.1 (full_back o.limit p f o.side o.quantity)); before = before }))
         (two_err (not (misses o.side o.limit p) || eqb f 0) (not (beats o.side o.limit p) || full o.quantity f) (ShouldBeEmpty (1 + i)) (ShouldBeFull (1 + i)) e t.refused)
 
-    block_mispriced : LawfulBook n os bs → WithinBook os fs bs gs → Each (OrderMeetsPrice day) os fs → Lowest (block_price day) no_block bs gs (next os) e → Here
+    block_mispriced : LawfulBook n os bs → WithinBook os fs bs gs → AllZip (OrderMeetsPrice day) os fs → Lowest (block_price day) no_block bs gs (next os) e → Here
     block_mispriced l w m t =
         let i : ℕ = t.place in
         let b : Block = get_or bs i no_block in
@@ -191,14 +191,14 @@ module _ (day : List Interval) (os : List Order) (fs : List ℕ) (bs : List Bloc
         (λ r. broken_as (BlockPrice (next os + i)) r.2 (block_not_paid l w m i record { there = t.there; breaks = (least_out b f r.0, fails (eqb f 0 || paid b f day) r.1 (price_back b f day)); before = before }))
         (two_err (eqb f 0 || enough b f) (eqb f 0 || paid b f day) (BelowLeast (next os + i)) (BlockPrice (next os + i)) e t.refused)
 
-    off_balance : LawfulBook n os bs → WithinBook os fs bs gs → Each (OrderMeetsPrice day) os fs → Each (BlockMeets day) bs gs → balances day os fs bs gs ≡ Err e → Here
+    off_balance : LawfulBook n os bs → WithinBook os fs bs gs → AllZip (OrderMeetsPrice day) os fs → AllZip (BlockMeets day) bs gs → balances day os fs bs gs ≡ Err e → Here
     off_balance l w m k p =
         let t = lowest_in (interval_balance os fs bs gs) fresh day (replicate n 0) 1 e (sym (length-replicate n 0)) p in
         let i : ℕ = t.place in
         let r = one_err (same (net_of (1 + i) os fs bs gs) (get_or day i fresh).net) (Unbalanced (1 + i)) e t.refused in
         broken_as (Unbalanced (1 + i)) r.1 (unbalanced l w m k i record { there = t.there; breaks = fails (same (net_of (1 + i) os fs bs gs) (get_or day i fresh).net) r.0 (balanced_test i); before = λ j h. balanced_one j (t.before j h) })
 
-    then_err : {X : Type 0} (r : Result Unit Refusal) (s : Result X Refusal) → then r s ≡ Err e → (r ≡ Err e) ⊎ ((r ≡ Ok tt) × (s ≡ Err e))
+    then_err : {X : Type 0} (r : Result Unit Refusal) (s : Result X Refusal) → result_and r s ≡ Err e → (r ≡ Err e) ⊎ ((r ≡ Ok tt) × (s ≡ Err e))
     then_err (Ok u) s p = inr (refl, p)
     then_err (Err f) s p = inl (cc)
 

@@ -9,7 +9,7 @@ use Rattle.market.specs.declared.records.Block.{Block}
 use Rattle.market.specs.declared.records.Interval.{Interval}
 use Rattle.market.specs.declared.refusal.Refusal.{Refusal}
 use Rattle.market.specs.Blank.{fresh}
-use Rattle.verdict.specs.Each.{Each}
+use Rattle.std.specs.List.{AllZip}
 use Rattle.verdict.specs.Sums.{sum_filled}
 use Rattle.market.specs.Kinds.{orders}
 use Rattle.verdict.specs.Balance.{sale_in, net_of}
@@ -45,19 +45,19 @@ module _ (day : List Interval) where
   in_day [] a = tt
   in_day (o ∷ os) a = (a.0.in_day, in_day os a.1)
 
-  within : (os : List Order) (hs : List ℕ) → Every (LawfulOrder (length day)) os → Each Fits os hs → Within os hs
+  within : (os : List Order) (hs : List ℕ) → Every (LawfulOrder (length day)) os → AllZip Fits os hs → Within os hs
   within [] [] a w = none
   within [] (h ∷ hs) a w = absurd w
   within (o ∷ os) [] a w = absurd w
   within (o ∷ os) (h ∷ hs) a w = more (most_from o.quantity h a.0.terms.sized.0 w.0) (within os hs a.1 w.1)
 
-  meets : (os : List Order) (hs : List ℕ) → Every (LawfulOrder (length day)) os → Each Fits os hs → Each (OrderMeetsPrice day) os hs → Meets price os hs
+  meets : (os : List Order) (hs : List ℕ) → Every (LawfulOrder (length day)) os → AllZip Fits os hs → AllZip (OrderMeetsPrice day) os hs → Meets price os hs
   meets [] hs a w m = tt
   meets (o ∷ os) [] a w m = tt
   meets (o ∷ os) (h ∷ hs) a w m =
       (rules_from o.side o.limit o.quantity (price (nat_abs o.interval)) h a.0.terms.sized.0 w.0 m.0.empty m.0.full, meets os hs a.1 w.1 m.1)
 
-  met : (os : List Order) (hs : List ℕ) → Every (LawfulOrder (length day)) os → Each Fits os hs → Meets price os hs → Each (OrderMeetsPrice day) os hs
+  met : (os : List Order) (hs : List ℕ) → Every (LawfulOrder (length day)) os → AllZip Fits os hs → Meets price os hs → AllZip (OrderMeetsPrice day) os hs
   met [] [] a w m = tt
   met [] (h ∷ hs) a w m = absurd w
   met (o ∷ os) [] a w m = absurd w

@@ -4,13 +4,13 @@ use Rattle.market.specs.declared.refusal.Refusal.{Refusal}
 use Rattle.market.specs.declared.records.Order.{Order}
 use Rattle.market.specs.declared.records.Block.{Block}
 use Rattle.market.specs.declared.records.Interval.{Interval}
-use Rattle.verdict.specs.Each.{Each}
+use Rattle.std.specs.List.{AllZip}
 use Rattle.verdict.specs.Balance.{welfare}
 use Rattle.verdict.specs.Passes.{WithinQuantity, Balanced, Passes}
 
 -- other fills of the orders beside the same fills of the blocks: none above its quantity, and every interval balances
 pub record Rival (day : List Interval) (os : List Order) (hs : List ℕ) (bs : List Block) (gs : List ℕ) : Type 0 where
-  pub within : Each (λ o. WithinQuantity o.quantity) os hs
+  pub within : AllZip (λ o. WithinQuantity o.quantity) os hs
   pub balanced : Balanced day os hs bs gs
 
 -- no rival has more welfare, and a rival has as much exactly when it keeps every rule too

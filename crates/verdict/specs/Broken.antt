@@ -7,7 +7,7 @@ use Rattle.market.specs.declared.records.Interval.{Interval}
 use Rattle.market.specs.declared.refusal.Refusal.{Refusal}
 use Rattle.market.specs.declared.refusal.Refusal.TheVariants.{Short, OutsideBounds, OverQuantity, ShouldBeEmpty, ShouldBeFull, BelowLeast, BlockPrice, Unbalanced}
 use Rattle.market.specs.Blank.{no_order, no_block}
-use Rattle.verdict.specs.Each.{Each}
+use Rattle.std.specs.List.{AllZip}
 use Rattle.verdict.specs.Rules.{price_at}
 use Rattle.verdict.specs.Balance.{welfare}
 use Rattle.verdict.specs.Verdict.{next}
@@ -53,17 +53,17 @@ module _ (day : List Interval) (os : List Order) (fs : List ℕ) (bs : List Bloc
         → (i : ℕ) → FirstNot (length bs) (BlockAt (λ b f. LawfulBlock (length day) b)) i → Broken (OutsideBounds (next os + i))
     order_over : LawfulBook (length day) os bs
         → (i : ℕ) → FirstNot (length os) (OrderAt (λ o. WithinQuantity o.quantity)) i → Broken (OverQuantity (1 + i))
-    block_over : LawfulBook (length day) os bs → Each (λ o. WithinQuantity o.quantity) os fs
+    block_over : LawfulBook (length day) os bs → AllZip (λ o. WithinQuantity o.quantity) os fs
         → (i : ℕ) → FirstNot (length bs) (BlockAt (λ b. WithinQuantity b.quantity)) i → Broken (OverQuantity (next os + i))
     order_not_empty : LawfulBook (length day) os bs → WithinBook os fs bs gs
         → (i : ℕ) → First (length os) (OrderAt (OrderMeetsPrice day)) (OrderAt NotEmpty) i → Broken (ShouldBeEmpty (1 + i))
     order_not_full : LawfulBook (length day) os bs → WithinBook os fs bs gs
         → (i : ℕ) → First (length os) (OrderAt (OrderMeetsPrice day)) (OrderAt NotFull) i → Broken (ShouldBeFull (1 + i))
-    block_below_least : LawfulBook (length day) os bs → WithinBook os fs bs gs → Each (OrderMeetsPrice day) os fs
+    block_below_least : LawfulBook (length day) os bs → WithinBook os fs bs gs → AllZip (OrderMeetsPrice day) os fs
         → (i : ℕ) → First (length bs) (BlockAt (BlockMeets day)) (BlockAt (λ b f. BlockMeetsLeast b f → ⊥)) i → Broken (BelowLeast (next os + i))
-    block_not_paid : LawfulBook (length day) os bs → WithinBook os fs bs gs → Each (OrderMeetsPrice day) os fs
+    block_not_paid : LawfulBook (length day) os bs → WithinBook os fs bs gs → AllZip (OrderMeetsPrice day) os fs
         → (i : ℕ) → First (length bs) (BlockAt (BlockMeets day)) (BlockAt NotPaid) i → Broken (BlockPrice (next os + i))
-    unbalanced : LawfulBook (length day) os bs → WithinBook os fs bs gs → Each (OrderMeetsPrice day) os fs → Each (BlockMeets day) bs gs
+    unbalanced : LawfulBook (length day) os bs → WithinBook os fs bs gs → AllZip (OrderMeetsPrice day) os fs → AllZip (BlockMeets day) bs gs
         → (i : ℕ) → FirstNot (length day) (BalancedAt day os fs bs gs) i → Broken (Unbalanced (1 + i))
 
   -- the first broken rule of any paper: its lengths come first

@@ -1,5 +1,4 @@
 pub mod Walks
-pub mod Each
 pub mod Sums
 pub mod Rules
 pub mod Worths

@@ -7,7 +7,7 @@ use Rattle.market.specs.declared.records.Order.{Order}
 use Rattle.market.specs.declared.records.Block.{Block}
 use Rattle.market.specs.declared.records.Interval.{Interval}
 use Rattle.market.specs.Blank.{fresh}
-use Rattle.verdict.specs.Each.{Each}
+use Rattle.std.specs.List.{AllZip}
 use Rattle.verdict.specs.Rules.{thousandths, price_at, block_prices, span}
 use Rattle.verdict.specs.Balance.{net_of}
 use Rattle.verdict.specs.Verdict.{Sized}
@@ -88,8 +88,8 @@ pub record BlockMeets (day : List Interval) (b : Block) (f : ℕ) : Type 0 where
 
 -- no fill exceeds its quantity
 pub record WithinBook (os : List Order) (fs : List ℕ) (bs : List Block) (gs : List ℕ) : Type 0 where
-  pub orders : Each (λ o. WithinQuantity o.quantity) os fs
-  pub blocks : Each (λ b. WithinQuantity b.quantity) bs gs
+  pub orders : AllZip (λ o. WithinQuantity o.quantity) os fs
+  pub blocks : AllZip (λ b. WithinQuantity b.quantity) bs gs
 
 -- in the interval at a place, from 0, sales less purchases are the net position
 abbrev pub BalancedAt : List Interval → List Order → List ℕ → List Block → List ℕ → ℕ → Type 0
@@ -102,6 +102,6 @@ Balanced day os fs bs gs = (i : ℕ) → i < length day → BalancedAt day os fs
 -- the paper keeps every rule
 pub record Passes (day : List Interval) (os : List Order) (fs : List ℕ) (bs : List Block) (gs : List ℕ) : Type 0 where
   pub within : WithinBook os fs bs gs
-  pub orders : Each (OrderMeetsPrice day) os fs
-  pub blocks : Each (BlockMeets day) bs gs
+  pub orders : AllZip (OrderMeetsPrice day) os fs
+  pub blocks : AllZip (BlockMeets day) bs gs
   pub balanced : Balanced day os fs bs gs

@@ -5,7 +5,8 @@ use Rattle.market.specs.declared.records.Block.{Block}
 use Rattle.market.specs.declared.records.Interval.{Interval}
 use Rattle.market.specs.declared.refusal.Refusal.{Refusal}
 use Rattle.market.specs.declared.refusal.Refusal.TheVariants.{Short}
-use Rattle.market.specs.First.{tests, then}
+use Rattle.market.specs.First.{tests}
+use Rattle.std.specs.Result.{result_and}
 use Rattle.verdict.specs.Walks.{first_in, first_filled}
 use Rattle.market.specs.Bounds.{order_bounds, block_bounds, outside}
 use Rattle.verdict.specs.Rules.{quantity_rule, order_price, block_price}
@@ -36,16 +37,16 @@ next os = length os + 1
 
 -- 12, by entry, in a day of n intervals
 abbrev pub bounds : ℕ → List Order → List Block → Result Unit Refusal
-bounds n os bs = then (first_in (λ o k. outside k (order_bounds n o)) os 1) (first_in (λ b k. outside k (block_bounds n b)) bs (next os))
+bounds n os bs = result_and (first_in (λ o k. outside k (order_bounds n o)) os 1) (first_in (λ b k. outside k (block_bounds n b)) bs (next os))
 
 -- 13, by entry
 abbrev pub quantities : List Order → List ℕ → List Block → List ℕ → Result Unit Refusal
 quantities os fs bs gs =
-    then (first_filled (λ o. quantity_rule o.quantity) os fs 1) (first_filled (λ b. quantity_rule b.quantity) bs gs (next os))
+    result_and (first_filled (λ o. quantity_rule o.quantity) os fs 1) (first_filled (λ b. quantity_rule b.quantity) bs gs (next os))
 
 -- 11, 12, 13: a paper on a book in a day of n intervals, before any price is looked at
 abbrev pub paper_checks : ℕ → List Order → List ℕ → List Block → List ℕ → Result Unit Refusal
-paper_checks n os fs bs gs = then (paper_lengths n os fs bs gs) (then (bounds n os bs) (quantities os fs bs gs))
+paper_checks n os fs bs gs = result_and (paper_lengths n os fs bs gs) (result_and (bounds n os bs) (quantities os fs bs gs))
 
 -- the test of the lengths of a book in a day of n intervals
 abbrev pub book_lengths_ok : ℕ → List Order → List Block → Bool
@@ -53,11 +54,11 @@ book_lengths_ok n os bs = nat_le n 100 && (nat_le (length os) 1024 && nat_le (le
 
 -- 11, 12: a book without a paper
 abbrev pub book_checks : ℕ → List Order → List Block → Result Unit Refusal
-book_checks n os bs = then (tests ((book_lengths_ok n os bs, Short) ∷ [])) (bounds n os bs)
+book_checks n os bs = result_and (tests ((book_lengths_ok n os bs, Short) ∷ [])) (bounds n os bs)
 
 -- 14 and 15 by entry of the orders, then 16 and 17 by entry of the blocks
 abbrev pub prices : List Interval → List Order → List ℕ → List Block → List ℕ → Result Unit Refusal
-prices day os fs bs gs = then (first_filled (order_price day) os fs 1) (first_filled (block_price day) bs gs (next os))
+prices day os fs bs gs = result_and (first_filled (order_price day) os fs 1) (first_filled (block_price day) bs gs (next os))
 
 -- 18, by interval
 abbrev pub balances : List Interval → List Order → List ℕ → List Block → List ℕ → Result Unit Refusal
@@ -66,9 +67,9 @@ balances day os fs bs gs = first_in (interval_balance os fs bs gs) day 1
 -- the first rule that is broken, and where, or the welfare
 abbrev pub verdict_of : List Interval → List Order → List ℕ → List Block → List ℕ → Result ℤ Refusal
 verdict_of day os fs bs gs =
-    then (lengths day os fs bs gs)
-    (then (bounds (length day) os bs)
-    (then (quantities os fs bs gs)
-    (then (prices day os fs bs gs)
-    (then (balances day os fs bs gs)
+    result_and (lengths day os fs bs gs)
+    (result_and (bounds (length day) os bs)
+    (result_and (quantities os fs bs gs)
+    (result_and (prices day os fs bs gs)
+    (result_and (balances day os fs bs gs)
     (Ok (welfare os fs bs gs))))))

@@ -4,7 +4,7 @@ ghost use Rattle.verdict.specs.Verdict.{Sized, book_lengths_ok, paper_lengths, q
 
 use super::rules::Quantities;
 use super::walk::first_broken;
-use market::bounds::{MOST_BLOCKS, MOST_INTERVALS, MOST_ORDERS};
+use market::bounds::MOST_INTERVALS;
 use market::records::{Book, Fills};
 use market::refusal::Refusal;
 
@@ -20,9 +20,7 @@ pub(crate) struct Paper<'a, 'b> {
 pub(crate) fn has_lawful_lengths(intervals: usize, book: Book<'_>) -> bool
     ensures { result ≡ book_lengths_ok intervals book.entry.orders.now book.entry.blocks.now }
 {
-    intervals <= MOST_INTERVALS
-        && book.orders.len() <= MOST_ORDERS
-        && book.blocks.len() <= MOST_BLOCKS
+    intervals <= MOST_INTERVALS && book.is_within_limits()
 }
 
 /// The entry of the first block.

@@ -4,7 +4,7 @@ ghost use Rattle.market.specs.declared.refusal.Refusal.{Refusal};
 ghost use Rattle.verdict.specs.Walks.{first_in, first_filled};
 ghost use Rattle.market.specs.Signed.{Within};
 ghost use Rattle.verdict.specs.Sums.{sum_filled};
-ghost use Rattle.verdict.specs.Each.{Each};
+ghost use Rattle.std.specs.List.{AllZip};
 
 use market::refusal::Refusal;
 
@@ -54,7 +54,7 @@ pub(crate) fn first_broken<T, R: Rule<T>>(
 ) -> Result<(), Refusal>
     requires few { length entries.now ≤ 1024 }
     requires from { first ≤ 1025 }
-    requires may { Each (R.Rule.may rule.now) entries.now fills.now }
+    requires may { AllZip (R.Rule.may rule.now) entries.now fills.now }
     ensures { result ≡ first_filled (R.Rule.answer rule.now) entries.now fills.now first }
 {
     for (i, (x, fill)) in entries.iter().zip(fills).enumerate() {
@@ -78,7 +78,7 @@ pub(crate) trait Amount<T> {
 /// What the entries come to.
 pub(crate) fn sum_of<T, M: Amount<T>>(amounts: &M, entries: &[T], fills: &[u32]) -> i64
     requires few { length entries.now ≤ 1024 }
-    requires may { Each (M.Amount.may amounts.now) entries.now fills.now }
+    requires may { AllZip (M.Amount.may amounts.now) entries.now fills.now }
     ensures is { result ≡ sum_filled (M.Amount.gives amounts.now) entries.now fills.now }
     ensures small { Within (40000000000000 * 1024) result }
 {

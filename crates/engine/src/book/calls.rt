@@ -1,7 +1,8 @@
 // Starting a day, and filling its book.
 ghost use Rattle.std.specs.Prelude.{◌≡◌, ◌≤◌, length};
 ghost use Rattle.market.specs.Bounds.{terms_bounds, order_bounds, block_bounds};
-ghost use Rattle.engine.specs.Books.{Started, Termed, entry, taken, Entered};
+ghost use Rattle.engine.specs.Books.{Started, Termed, entry, Entered};
+ghost use Rattle.std.specs.Result.{result_unwrap_or};
 
 use super::{Closed, Counts, Open};
 use crate::day::Day;
@@ -37,7 +38,7 @@ fn enter<E: Entry + Copy>(
 ) -> Result<usize, Refusal>
     requires { most ≤ 1024 }
     ensures answers { result ≡ entry (E.kind.bounds day.now.count «record») count (length memory.old) most }
-    ensures leaves { Entered result «record» count memory.old (taken result count) memory.new }
+    ensures leaves { Entered result «record» count memory.old (result_unwrap_or result count) memory.new }
 {
     record.check_bounds(day.count())?;
     if count >= memory.len() || count >= most {

@@ -1,7 +1,7 @@
 use Rattle.std.proofs.Common.{◌≡◌, ◌+◌, length}
 use Rattle.std.specs.Iterator.Adapters.{enumerate_source, enumerate_count, zip_first, zip_second}
 use Rattle.std.specs.Slice.Iter.{iter_rest}
-use Rattle.verdict.specs.Each.{Each}
+use Rattle.std.specs.List.{AllZip}
 use Rattle.verdict.specs.Walks.{first_filled}
 use Rattle.verdict.proofs.walk.first_broken.Given as goal
 
@@ -14,6 +14,6 @@ invariant-loop-i g l =
     (goal.iterator-loop-i g).can_next l.i-iterator
     × (goal.iterator-loop-i g).is_finite l.i-iterator
     × (i + length xs ≡ length l.entries)
-    × Each (g.R.Rule.may l.rule) xs fs
+    × AllZip (g.R.Rule.may l.rule) xs fs
     × (first_filled (g.R.Rule.answer l.rule) xs fs (l.first + i)
     ≡ first_filled (g.R.Rule.answer l.rule) l.entries l.fills l.first)

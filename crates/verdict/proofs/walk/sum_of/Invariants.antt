@@ -2,7 +2,7 @@ use Rattle.std.proofs.Common.{◌≡◌, ◌+◌, ◌*◌, length, ◌+ℤ◌}
 use Rattle.std.specs.Iterator.Adapters.{zip_first, zip_second}
 use Rattle.std.specs.Slice.Iter.{iter_rest}
 use Rattle.market.specs.Signed.{Within}
-use Rattle.verdict.specs.Each.{Each}
+use Rattle.std.specs.List.{AllZip}
 use Rattle.verdict.specs.Sums.{sum_filled}
 use Rattle.verdict.proofs.walk.sum_of.Given as goal
 
@@ -14,6 +14,6 @@ invariant-loop-x g l =
     (goal.iterator-loop-x g).can_next l.x-iterator
     × (goal.iterator-loop-x g).is_finite l.x-iterator
     × (length l.yielded + length xs ≡ length l.entries)
-    × Each (g.M.Amount.may l.amounts) xs fs
+    × AllZip (g.M.Amount.may l.amounts) xs fs
     × ((l.sum +ℤ sum_filled (g.M.Amount.gives l.amounts) xs fs) ≡ sum_filled (g.M.Amount.gives l.amounts) l.entries l.fills)
     × Within (40000000000000 * length l.yielded) l.sum
