@@ -27,6 +27,7 @@ fn take_turn<C: Candidate>(list: &[C], numbers: &mut [u32], turn: usize) -> bool
     }
 }
 
+// As the rule is read, and not by a remainder.
 fn next_turn(count: usize, turn: usize) -> usize
     requires { turn < count }
     ensures { result ≡ next_turn count turn }

@@ -11,6 +11,7 @@ use verdict::check_paper;
 
 const FIRST_INTERVAL: usize = 1;
 
+// Of settling the interval is a `u32`; market's test of a record's number is of an `i32`, which this one may not fit.
 fn has_interval(intervals: usize, interval: u32) -> bool
     ensures { result ≡ interval_ok intervals interval }
 {

@@ -12,6 +12,7 @@ fn put_in_row(row: &mut [u32], interval: u32, number: u32)
     row[interval as usize - 1] = number;
 }
 
+// A number's place is counted from its entry and its interval: the rows of the sheet are written at one interval, and not walked.
 impl Task<'_> {
     // Writes the number of the entry at a place.
     #[tactic(auto, using(crate::proofs::Rows::row_set))]

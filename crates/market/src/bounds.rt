@@ -54,11 +54,18 @@ pub(crate) fn is_price(price: i32) -> bool
     (LOWEST_PRICE..=HIGHEST_PRICE).contains(&price)
 }
 
+/// Steps in thousandths of a MW.
+pub fn thousandths(steps: i32) -> i64
+    ensures { result ≡ pos 100 *ℤ steps }
+{
+    THOUSANDTHS_PER_STEP * i64::from(steps)
+}
+
 // How far the rounded net position, in thousandths, lies above the net position.
 fn rounding(net: i32, rounded: i32) -> i64
     ensures { result ≡ (pos 100 *ℤ rounded) -ℤ net }
 {
-    THOUSANDTHS_PER_STEP * i64::from(rounded) - i64::from(net)
+    thousandths(rounded) - i64::from(net)
 }
 
 fn is_net(net: i32, rounded: i32) -> bool

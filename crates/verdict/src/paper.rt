@@ -31,6 +31,8 @@ pub(crate) fn next_entry(book: Book<'_>) -> u32
     book.orders.len() as u32 + 1
 }
 
+// A walk goes over the orders, and then over the blocks, in two lines where a rule is asked. One method over both would need what the
+// rule asks of each as a clause, for orders and for blocks.
 impl<'a, 'b> Paper<'a, 'b> {
     /// 11: the lengths, in a day of so many intervals.
     pub(crate) fn new(

@@ -1,12 +1,11 @@
 // The rules on one record, and on one entry with its fill.
 ghost use Rattle.std.specs.Prelude.{◌≡◌, ℕ, ◌≤◌, true, length, pos, ◌*ℤ◌, ◌≤ℤ◌, Ok};
 ghost use Rattle.market.specs.Bounds.{in_day, quantity_ok, least_ok, span_ok, order_bounds, block_bounds, outside};
-ghost use Rattle.verdict.specs.Rules.{thousandths};
 ghost use Rattle.verdict.specs.Rules.{within, full, quantity_rule, price_at, misses, beats, order_price};
 ghost use Rattle.verdict.specs.Rules.{enough, price_sum, block_prices, span, pays, block_price};
 
 use super::walk::{Check, Rule};
-use market::bounds::THOUSANDTHS_PER_STEP;
+use market::bounds::thousandths;
 use market::entry::Entry;
 use market::records::{Block, Interval, Order, Side};
 use market::refusal::Refusal;
@@ -26,13 +25,6 @@ impl<E: Entry> Check<E> for Bounds {
         x.check_bounds(self.intervals)
             .map_err(|_| Refusal::OutsideBounds { entry: number })
     }
-}
-
-// A quantity in thousandths of a MW.
-fn thousandths(steps: i32) -> i64
-    ensures { result ≡ thousandths steps }
-{
-    THOUSANDTHS_PER_STEP * i64::from(steps)
 }
 
 /// 13: no fill above its quantity.

@@ -28,6 +28,7 @@ pub(crate) fn first_refused<T, C: Check<T>>(
     requires from { first ≤ 1025 }
     ensures { result ≡ first_in (C.Check.answer check.now) records.now first }
 {
+    // The number is counted from the index: a range without an end beside the records would need that none of its numbers overflows.
     for (i, x) in records.iter().enumerate() {
         check.check(x, first + i as u32)?;
     }
