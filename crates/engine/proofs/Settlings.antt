@@ -4,7 +4,7 @@ use Rattle.std.specs.List.{AllByRecursion as Every}
 use Rattle.ledger.specs.declared.refusal.PostRefused.{PostRefused}
 use Rattle.ledger.specs.declared.account.Account.{Account}
 use Rattle.ledger.specs.Model.{if_taken}
-use Rattle.posting.specs.Postings.{answers, left, posted_all}
+use Rattle.posting.specs.Postings.{answers, posted_all}
 use Rattle.market.specs.declared.records.Order.{Order}
 use Rattle.market.specs.declared.records.Block.{Block}
 use Rattle.market.specs.declared.records.Mark.TheVariants.{Out}

@@ -4,7 +4,6 @@ use lib.Signed.{le_z}
 use borrow.Author.Differences.{ints, abs_is}
 use Rattle.std.specs.List.{AllByRecursion as Every}
 use Rattle.std.proofs.lemmas.Bool.{and_parts, and_from, cases_Bool}
-use Rattle.market.specs.declared.refusal.Refusal.{Refusal}
 use Rattle.market.specs.declared.records.Block.{Block}
 use Rattle.market.specs.declared.records.Order.{Order}
 use Rattle.market.specs.First.{tests}
