@@ -27,7 +27,8 @@ pub(crate) fn write_rounded<E: Entry>(paper: &Paper<'_, E>, interval: u32, numbe
     }
 }
 
-// Sells less buys. The sum has signs, so that no bound on `sum` is known: a loop keeps it.
+// Sells less buys. The sum has signs, so that no bound on `sum` is known: a loop keeps it. How many entries there are is asked here: the
+// numbers are lent beside a book, and no `Paper`, which holds fills, has both.
 pub(crate) fn net<E: Entry>(entries: &[E], numbers: &[u32]) -> i64
     requires same { length numbers.now ≡ length entries.now }
     requires few { length entries.now ≤ 1024 }

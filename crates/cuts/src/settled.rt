@@ -15,7 +15,7 @@ use crate::rank::Candidate;
 use crate::stage::run_turns;
 use market::records::{Block, Book, Fills, Order};
 
-// One stage: its candidates in rank order, then their turns.
+// One stage: its candidates in rank order, then their turns. The list's room is asked here as in `gather`.
 fn run_stage<C: Candidate + Copy, E: Stands<C>>(
     paper: &Paper<'_, E>,
     stage: Stage,
@@ -31,7 +31,7 @@ fn run_stage<C: Candidate + Copy, E: Stands<C>>(
     run_turns(&list[..count], numbers, gap)
 }
 
-// The two stages of a kind of entry.
+// The two stages of a kind of entry. The list's room is asked here as in `gather`.
 fn cut_kind<C: Candidate + Copy, E: Stands<C>>(
     paper: &Paper<'_, E>,
     interval: u32,

@@ -8,7 +8,8 @@ use crate::rank::Candidate;
 // A candidate is never cut below this.
 const LAST: u32 = 1;
 
-// The turn of one candidate: it loses a step, unless it holds no more than its last; false where it loses none, which ends the turns.
+// The turn of one candidate: it loses a step, unless it holds no more than its last. A `bool`, since it is the condition of the loop in
+// `run_turns`: false, where none is lost, ends the turns, and there is no value to carry.
 // The write is by index: after `get_mut` a proof knows the length of the slice alone, and no element.
 fn take_turn<C: Candidate>(list: &[C], numbers: &mut [u32], turn: usize) -> bool
     ensures loses { result ≡ nat_lt 1 (slice_index (held (map C.place list.now) numbers.old) turn) }
@@ -27,7 +28,7 @@ fn take_turn<C: Candidate>(list: &[C], numbers: &mut [u32], turn: usize) -> bool
     }
 }
 
-// As the rule is read, and not by a remainder.
+// After the last candidate the first again. Not `(turn + 1) % count`: the rule is read as this choice, and the definition says it so.
 fn next_turn(count: usize, turn: usize) -> usize
     requires { turn < count }
     ensures { result ≡ next_turn count turn }

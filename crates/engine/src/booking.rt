@@ -11,7 +11,8 @@ use ledger::{BALANCING, Ledger};
 use market::records::{Interval, Mark};
 
 impl Day {
-    // What booking posts: minus the worth of the remainder.
+    // What booking posts: minus the worth of the remainder. That the day has its interval is asked here, after `shows_out` found it: a
+    // remainder is of no day.
     fn booked(&self, remainder: &Remainder) -> i64
         requires { in_day self.now.count remainder.now.interval ≡ true }
         ensures { result ≡ booked self.now remainder.now }

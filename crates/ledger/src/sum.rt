@@ -8,7 +8,8 @@ use super::Accounts;
 pub fn sum_of_balances<L: Accounts>(ledger: &L) -> i128
     ensures { result ≡ total (L.Accounts.model ledger.now) }
 {
-    // A loop and no `sum()`: of signed numbers that one needs a bound on every partial sum, which a chain has no place for.
+    // A loop over places, since they are all that a ledger shows, and no `sum()`: of signed numbers that one needs a bound on every partial
+    // sum, which a chain has no place for.
     let mut sum: i128 = 0;
     for place in 0..ledger.count() {
         sum += i128::from(balance_at(ledger, place));

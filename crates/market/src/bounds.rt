@@ -45,7 +45,7 @@ fn is_count(count: i32) -> bool
 pub fn is_in_day(intervals: usize, interval: i32) -> bool
     ensures { result ≡ in_day intervals interval }
 {
-    1 <= interval && interval as usize <= intervals
+    usize::try_from(interval).is_ok_and(|interval| (1..=intervals).contains(&interval))
 }
 
 pub(crate) fn is_price(price: i32) -> bool
@@ -72,9 +72,7 @@ fn is_net(net: i32, rounded: i32) -> bool
     ensures { result ≡ net_ok net rounded }
 {
     let off = rounding(net, rounded);
-    (-MOST_NET..=MOST_NET).contains(&net)
-        && -THOUSANDTHS_PER_STEP < off
-        && off < THOUSANDTHS_PER_STEP
+    (-MOST_NET..=MOST_NET).contains(&net) && off.abs() < THOUSANDTHS_PER_STEP
 }
 
 pub(crate) fn is_quantity(steps: i32) -> bool

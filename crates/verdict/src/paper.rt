@@ -23,7 +23,7 @@ pub(crate) fn has_lawful_lengths(intervals: usize, book: Book<'_>) -> bool
     intervals <= MOST_INTERVALS && book.is_within_limits()
 }
 
-/// The entry of the first block.
+/// The entry of the first block. How many orders there are is asked of the book and not of a `Paper`: `bounds` has a book without fills.
 pub(crate) fn next_entry(book: Book<'_>) -> u32
     requires { length book.orders.now ≤ 1024 }
     ensures { result ≡ length book.entry.orders.now + 1 }

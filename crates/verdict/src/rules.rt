@@ -60,7 +60,7 @@ fn is_missed(side: Side, limit: i32, price: i32) -> bool
     }
 }
 
-// Not `is_missed` with its numbers exchanged: the two rules are read apart, the limit first.
+// Not `is_missed` with its numbers exchanged: a reader of the rules would have to turn limit and price round in each of its lines.
 fn is_beaten(side: Side, limit: i32, price: i32) -> bool
     ensures { result ≡ beats side limit price }
 {
@@ -110,6 +110,7 @@ fn is_enough(block: &Block, fill: u32) -> bool
     i64::from(block.least) * thousandths(block.quantity) <= WHOLE_PERCENTAGE * i64::from(fill)
 }
 
+// How many intervals there are is asked here: they are a part of the day, and `Prices` holds the whole.
 fn total_price(intervals: &[Interval]) -> i64
     requires { length intervals.now ≤ 100 }
     ensures { result ≡ price_sum intervals.now }

@@ -8,6 +8,9 @@ ghost use Rattle.std.specs.List.{AllZip};
 
 use market::refusal::Refusal;
 
+// A trait for what a walk asks, and no closure: its ghost members say what may be asked and what is answered, so that the clause of a walk
+// is one equation over them.
+
 /// A look at one record by its number: the entry of an order or a block, or the number of an interval.
 pub(crate) trait Check<T> {
     ghost answer: { Self → T → ℕ → Result Unit Refusal };

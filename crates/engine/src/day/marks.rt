@@ -14,6 +14,7 @@ use market::records::{Interval, Mark};
 const MINUTES_PER_QUARTER: u32 = 15;
 
 impl Day {
+    // A `let else`, since of an `is_some_and` over the record the proof stays open.
     pub(crate) fn shows_out(&self, remainder: &Remainder) -> bool
         ensures { result ≡ shows_out self.now remainder.now.interval remainder.now.steps }
     {
@@ -23,6 +24,7 @@ impl Day {
         record.mark == Mark::Out && record.remainder == remainder.steps
     }
 
+    // That the day has the interval is asked here and below: it speaks of day and interval together, and neither alone can hold it.
     pub(crate) fn put_state(&mut self, interval: i32, mark: Mark, remainder: i32)
         requires { in_day self.old.count interval ≡ true }
         ensures { Recorded self.old (place_of interval) (with_state (record_of self.old interval) mark remainder) self.new }
@@ -38,6 +40,7 @@ impl Day {
         );
     }
 
+    // The interval as for `put_state`.
     pub(crate) fn put_mark(&mut self, interval: i32, mark: Mark)
         requires { in_day self.old.count interval ≡ true }
         ensures { Marked self.old interval mark self.new }

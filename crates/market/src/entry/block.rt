@@ -19,8 +19,7 @@ impl Entry for Block {
     }
 
     fn covers(&self, interval: u32) -> bool {
-        let interval = i64::from(interval);
-        i64::from(self.first) <= interval && interval <= i64::from(self.last)
+        (i64::from(self.first)..=i64::from(self.last)).contains(&i64::from(interval))
     }
 
     fn quantity(&self) -> i32 {
