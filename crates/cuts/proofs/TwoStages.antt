@@ -11,7 +11,8 @@ use Rattle.cuts.specs.declared.gather.Filled.{Filled}
 use Rattle.cuts.specs.declared.gather.Filled.TheVariants.{Partly, Full}
 use Rattle.market.specs.Kinds.{Kind}
 use Rattle.cuts.specs.Rounding.{nearest}
-use Rattle.cuts.specs.Eligible.{cuts_side, partly, filled_so, cut_here, holds_some}
+use Rattle.market.specs.Bounds.{full}
+use Rattle.cuts.specs.Eligible.{cuts_side, filled_so, cut_here, holds_some}
 use Rattle.market.specs.Signed.{signed}
 use Rattle.cuts.specs.Numbers.{number, rounded_numbers, net}
 use Rattle.cuts.specs.Stages.{held, last_step, next_turn, one_less, Cut, turns, stage_cut, open_cuts}
@@ -68,11 +69,11 @@ module _ {X : Type 0} (kind : Kind X) (i : ℕ) (gap : ℤ) (xs : List X) (fs : 
   eligible_once : (p q : ℕ) → EligibleAt kind (stage_of i gap Partly) xs fs p → EligibleAt kind (stage_of i gap Full) xs fs q → p ≢ q
   eligible_once p q e f same =
       let x = e.entry in
-      let a : partly (get_or fs p 0) (kind.quantity x) ≡ true = (eligible_parts Partly p e).3 in
-      let b : partly (get_or fs q 0) (kind.quantity f.entry) ≡ false = not-true (partly (get_or fs q 0) (kind.quantity f.entry)) (eligible_parts Full q f).3 in
+      let a : full (kind.quantity x) (get_or fs p 0) ≡ false = not-true (full (kind.quantity x) (get_or fs p 0)) (eligible_parts Partly p e).3 in
+      let b : full (kind.quantity f.entry) (get_or fs q 0) ≡ true = (eligible_parts Full q f).3 in
       let y : x ≡ f.entry = sym (e.there x) ∙ ap (λ k. get_or xs k x) same ∙ f.there x in
-      let c : partly (get_or fs p 0) (kind.quantity x) ≡ false = ap₂ (λ k z. partly (get_or fs k 0) (kind.quantity z)) same y ∙ b in
-      both_ways (partly (get_or fs p 0) (kind.quantity x)) c a
+      let c : full (kind.quantity x) (get_or fs p 0) ≡ true = ap₂ (λ k z. full (kind.quantity z) (get_or fs k 0)) same y ∙ b in
+      both_ways (full (kind.quantity x) (get_or fs p 0)) a c
 
   -- one that is not cut here is none of the candidates
   eligible_here : (f : Filled) (p k : ℕ) → EligibleAt kind (stage_of i gap f) xs fs p → ((x : X) → cut_here kind i gap (get_or xs k x) ≡ false) → p ≢ k

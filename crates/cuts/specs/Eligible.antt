@@ -1,11 +1,12 @@
 -- Who is cut in a stage.
-use Rattle.std.specs.Prelude.{ℕ, ◌+◌, Bool, cond, not, ◌&&◌, List, [], ◌∷◌, ℤ, pos, ◌*ℤ◌, int_lt, nat_lt}
+use Rattle.std.specs.Prelude.{ℕ, ◌+◌, Bool, cond, not, ◌&&◌, List, [], ◌∷◌, ℤ, pos, int_lt, nat_lt}
 use Rattle.market.specs.declared.records.Side.{Side}
 use Rattle.market.specs.declared.records.Side.TheVariants.{Sell, Buy}
 use Rattle.cuts.specs.declared.gather.Filled.{Filled}
 use Rattle.cuts.specs.declared.gather.Filled.TheVariants.{Partly, Full}
 use Rattle.cuts.specs.declared.gather.Stage.{Stage}
 use Rattle.cuts.specs.Rounding.{nearest}
+use Rattle.market.specs.Bounds.{full}
 use Rattle.market.specs.Kinds.{Kind}
 
 -- A positive gap cuts sells, a negative one buys, and none nobody.
@@ -13,14 +14,10 @@ abbrev pub cuts_side : ℤ → Side → Bool
 cuts_side gap Sell = int_lt (pos 0) gap
 cuts_side gap Buy = int_lt gap (pos 0)
 
--- An entry is partly filled where its fill, as it stands and not rounded, is below its quantity.
-abbrev pub partly : ℕ → ℤ → Bool
-partly fill quantity = int_lt (pos fill) (pos 100 *ℤ quantity)
-
--- partly filled or full, as a stage asks
+-- partly filled or full, by the fill as it stands and not rounded, as a stage asks
 abbrev pub filled_so : Filled → ℕ → ℤ → Bool
-filled_so Partly fill quantity = partly fill quantity
-filled_so Full fill quantity = not (partly fill quantity)
+filled_so Partly fill quantity = not (full quantity fill)
+filled_so Full fill quantity = full quantity fill
 
 -- of the interval and of the side that is cut
 abbrev pub cut_here : {X : Type 0} → Kind X → ℕ → ℤ → X → Bool

@@ -1,11 +1,12 @@
 -- The settled numbers of an interval: the rounded ones, cut in four stages.
-use Rattle.std.specs.Prelude.{◌≡◌, ℕ, ◌+◌, ◌≤◌, Bool, ◌&&◌, List, ◌++◌, length, map, ℤ, ◌+ℤ◌, ◌-ℤ◌, ◌==◌, nat_le, unsigned_abs}
+use Rattle.std.specs.Prelude.{◌≡◌, ℕ, ◌+◌, ◌≤◌, Bool, ◌&&◌, List, ◌++◌, length, map, ℤ, ◌+ℤ◌, ◌-ℤ◌, nat_le, unsigned_abs}
 use Rattle.market.specs.declared.records.Order.{Order}
 use Rattle.market.specs.declared.records.Block.{Block}
 use Rattle.cuts.specs.declared.candidates.Lists.{Lists}
 use Rattle.cuts.specs.declared.gather.Filled.{Filled}
 use Rattle.cuts.specs.declared.gather.Filled.TheVariants.{Partly, Full}
 use Rattle.cuts.specs.declared.gather.Stage.{Stage}
+use Rattle.market.specs.Bounds.{limits_ok, each_filled}
 use Rattle.market.specs.Kinds.{Kind, orders, blocks}
 use Rattle.cuts.specs.Kinds.{order_stands, block_stands}
 use Rattle.cuts.specs.Ranks.{order_before, block_before}
@@ -69,7 +70,7 @@ remainder_of os fs bs gs i r = balance os bs (settled_orders os fs bs gs i r) (s
 
 -- at most 1,024 orders and 64 blocks, each with a fill, and a number for each
 abbrev pub sizes_fit : ℕ → ℕ → ℕ → ℕ → ℕ → Bool
-sizes_fit o of b bf n = ((nat_le o 1024 && nat_le b 64) && (of == o && bf == b)) && nat_le (o + b) n
+sizes_fit o of b bf n = (limits_ok o b && each_filled o of b bf) && nat_le (o + b) n
 
 -- the same, as facts
 pub record Sizes (o of b bf n : ℕ) : Type 0 where

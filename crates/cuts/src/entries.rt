@@ -16,7 +16,7 @@ pub trait Stands<C>: Entry {
         ensures { result ≡ stands self.now steps place };
 }
 
-// Not `Side::signed`, whose amounts are counts: a limit has a sign of its own.
+// Not `Side::signed`, which promises that its answer is small because a count is; a limit has a sign of its own.
 // The limit as it ranks, the lower first: a sell's as it is, a buy's negated.
 fn price_key(side: Side, limit: i32) -> i64
     ensures { result ≡ price_key side limit }

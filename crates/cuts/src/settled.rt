@@ -1,5 +1,5 @@
 // From a book, its fills, an interval and R to the settled numbers.
-ghost use Rattle.std.specs.Prelude.{◌≡◌, ℕ, ◌+◌, ◌≤◌, true, ◌&&◌, ◌++◌, length, take, drop, ℤ, if◌then◌else◌, Some, None};
+ghost use Rattle.std.specs.Prelude.{◌≡◌, ℕ, ◌+◌, ◌≤◌, true, ◌&&◌, ◌++◌, length, take, drop, ℤ, if◌then◌else◌, Some, None, IfSome, is_some};
 ghost use Rattle.cuts.specs.Numbers.{rounded_numbers};
 ghost use Rattle.market.specs.Kinds.{orders, blocks};
 ghost use Rattle.cuts.specs.Stages.{last_step, stage_cut};
@@ -60,12 +60,7 @@ fn cut_kind<C: Candidate + Copy, E: Stands<C>>(
 fn sizes_fit(book: Book<'_>, fills: Fills<'_>, numbers: usize) -> bool
     ensures { result ≡ sizes_fit (length book.entry.orders.now) (length fills.entry.orders.now) (length book.entry.blocks.now) (length fills.entry.blocks.now) numbers }
 {
-    let orders = book.orders.len();
-    let blocks = book.blocks.len();
-    book.is_within_limits()
-        && fills.orders.len() == orders
-        && fills.blocks.len() == blocks
-        && orders + blocks <= numbers
+    book.is_within_limits() && fills.fit(book) && book.orders.len() + book.blocks.len() <= numbers
 }
 
 fn lists_fit(book: Book<'_>, order_list: usize, block_list: usize) -> bool
@@ -85,7 +80,30 @@ struct Rounding<'a> {
     ghost fits: { Sizes (length book.orders.now) (length fills.orders.now) (length book.blocks.now) (length fills.blocks.now) (length book.orders.now + length book.blocks.now) },
 }
 
-impl Rounding<'_> {
+// The numbers are not split in two by `split_at_mut`: what stands behind them would have to be carried as a third part.
+impl<'a> Rounding<'a> {
+    // Where the slices fit one another, and there is a number for each entry.
+    fn new(
+        book: Book<'a>,
+        fills: Fills<'a>,
+        interval: u32,
+        rounded: i32,
+        numbers: usize,
+    ) -> Option<Rounding<'a>>
+        ensures fits { is_some result ≡ sizes_fit (length book.entry.orders.now) (length fills.entry.orders.now) (length book.entry.blocks.now) (length fills.entry.blocks.now) numbers }
+        ensures holds { IfSome result (λ r. (r.book ≡ book.entry) × (r.fills ≡ fills.entry) × (r.interval ≡ interval) × (r.rounded ≡ rounded)) }
+    {
+        if !sizes_fit(book, fills, numbers) {
+            return None;
+        }
+        Some(Rounding {
+            book,
+            fills,
+            interval,
+            rounded,
+        })
+    }
+
     fn orders(&self) -> Paper<'_, Order>
         ensures entries { result.entries.now ≡ self.now.book.orders.now }
         ensures fills { result.fills.now ≡ self.now.fills.orders.now }
@@ -193,15 +211,7 @@ pub fn rounded_numbers(
     ensures gap { result ≡ (if sizes_fit (length book.entry.orders.now) (length fills.entry.orders.now) (length book.entry.blocks.now) (length fills.entry.blocks.now) (length numbers.old) then Some (gap_of book.entry.orders.now fills.entry.orders.now book.entry.blocks.now fills.entry.blocks.now interval rounded) else None) }
     ensures numbers { numbers.new ≡ (if sizes_fit (length book.entry.orders.now) (length fills.entry.orders.now) (length book.entry.blocks.now) (length fills.entry.blocks.now) (length numbers.old) then rounded_numbers orders interval book.entry.orders.now fills.entry.orders.now ++ (rounded_numbers blocks interval book.entry.blocks.now fills.entry.blocks.now ++ drop (length book.entry.orders.now + length book.entry.blocks.now) numbers.old) else numbers.old) }
 {
-    if !sizes_fit(book, fills, numbers.len()) {
-        return None;
-    }
-    let rounding = Rounding {
-        book,
-        fills,
-        interval,
-        rounded,
-    };
+    let rounding = Rounding::new(book, fills, interval, rounded, numbers.len())?;
     Some(rounding.round(numbers))
 }
 
@@ -221,16 +231,9 @@ pub fn settled_numbers(
     ensures refused { result ≡ None → (lists.new.orders.now ≡ lists.old.orders.now) × (lists.new.blocks.now ≡ lists.old.blocks.now) }
     ensures laws { Settles book.entry.orders.now fills.entry.orders.now book.entry.blocks.now fills.entry.blocks.now interval rounded }
 {
-    if !sizes_fit(book, fills, numbers.len())
-        || !lists_fit(book, lists.orders.len(), lists.blocks.len())
-    {
+    let rounding = Rounding::new(book, fills, interval, rounded, numbers.len())?;
+    if !lists_fit(book, lists.orders.len(), lists.blocks.len()) {
         return None;
     }
-    let rounding = Rounding {
-        book,
-        fills,
-        interval,
-        rounded,
-    };
     Some(rounding.settle(lists, numbers))
 }

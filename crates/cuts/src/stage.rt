@@ -51,7 +51,8 @@ pub(crate) fn run_turns<C: Candidate>(list: &[C], numbers: &mut [u32], gap: u64)
     left
 }
 
-// A call of its own over the turns: the laws of a stage are for callers, and settling would carry them through its proofs unused.
+// A call of its own over the turns: its laws are for callers. Settling runs the turns: what it needs of them is which numbers and which
+// gap are left, and their laws are proved of a whole interval.
 /// Cuts the numbers of the candidates in `list`, which are in rank order, and answers the gap that is left.
 pub fn cut_stage<C: Candidate>(list: &[C], numbers: &mut [u32], gap: u64) -> u64
     ensures numbers { numbers.new ≡ (stage_cut last_step (map C.place list.now) numbers.old gap).numbers }

@@ -1,9 +1,10 @@
 -- Judging a paper on a closed book: the verdict on the records that the book counts.
-use Rattle.std.specs.Prelude.{◌≡◌, ℕ, ◌≤◌, Bool, ◌&&◌, ◌⊎◌, List, [], ◌∷◌, length, take, ℤ, Ok, Err, Result, ◌==◌}
+use Rattle.std.specs.Prelude.{◌≡◌, ℕ, ◌≤◌, Bool, ◌&&◌, ◌⊎◌, List, [], ◌∷◌, length, take, ℤ, Ok, Err, Result}
 use Rattle.market.specs.declared.records.Order.{Order}
 use Rattle.market.specs.declared.records.Block.{Block}
 use Rattle.market.specs.declared.refusal.Refusal.{Refusal}
 use Rattle.market.specs.declared.refusal.Refusal.TheVariants.{Short}
+use Rattle.market.specs.Bounds.{each_filled}
 use Rattle.market.specs.First.{tests}
 use Rattle.std.specs.Result.{result_and}
 use Rattle.verdict.specs.Balance.{welfare}
@@ -21,7 +22,7 @@ use Rattle.engine.specs.Books.{holds}
 -- the test of the memory: no shorter than the counts, and as many fills as entries
 abbrev pub memory_ok : Closed → List Order → List ℕ → List Block → List ℕ → Bool
 memory_ok c os fs bs gs =
-    holds c.counts os bs && (length fs == c.counts.orders && length gs == c.counts.blocks)
+    holds c.counts os bs && each_filled c.counts.orders (length fs) c.counts.blocks (length gs)
 
 -- what judging answers: 11 for the memory, then the verdict on the counted records
 abbrev pub judge_answer : Closed → Day → List Order → List ℕ → List Block → List ℕ → Result ℤ Refusal

@@ -18,7 +18,8 @@ use Rattle.cuts.specs.Settled.{remainder_of}
 use Rattle.cuts.proofs.Remainders.{settles}
 use Rattle.entries.specs.Lawful.{rounded_ok}
 use Rattle.entries.specs.Sheet.{Laid}
-use Rattle.entries.specs.Settles.{interval_ok, room_ok, settle_checks, Settlement, Lengths, WorkLengths, SizedFor, Ready, settle_steps}
+use Rattle.market.specs.Bounds.{in_day}
+use Rattle.entries.specs.Settles.{room_ok, settle_checks, Settlement, Lengths, WorkLengths, SizedFor, Ready, settle_steps}
 
 -- what holds of the fill of each entry holds of any place of the fills
 small_at : {X : Type 0} (d : X) (xs : List X) (fs : List ℕ) → length xs ≡ length fs → ((k : ℕ) → k < length xs → get_or fs k 0 ≤ 1000000) → (k : ℕ) → get_or fs k 0 ≤ 1000000
@@ -26,7 +27,7 @@ small_at d xs fs e h k =
     ⊎_elim (λ lt. h k lt) (λ past. let z = get_or_past fs k 0 (omega arith) in omega arith) (cases_lt k (length xs))
 
 -- what the tests of the interval and of the room say
-laid_from : (o b n i : ℕ) (l : Lengths) → interval_ok n i ≡ true → room_ok o b n l ≡ true → Laid o b n i l.sheet
+laid_from : (o b n i : ℕ) (l : Lengths) → in_day n (pos i) ≡ true → room_ok o b n l ≡ true → Laid o b n i l.sheet
 laid_from o b n i l e f = record { from = grind (arith, nat_tests); to = grind (arith, nat_tests); room = grind (arith, nat_tests) }
 
 record Roomy (entries : ℕ) (w : WorkLengths) : Type 0 where
@@ -46,7 +47,7 @@ module _ (x : Settlement) (l : Lengths) where
       let fs = x.order_fills in
       let bs = x.blocks in
       let gs = x.block_fills in
-      let table = (interval_ok n x.interval, NoInterval) ∷ (room_ok (length os) (length bs) n l, Short) ∷ [] in
+      let table = (in_day n (pos x.interval), NoInterval) ∷ (room_ok (length os) (length bs) n l, Short) ∷ [] in
       let a = then_ok (tests table) (paper_checks n os fs bs gs) tt e in
       let b = tests_out table a.0 in
       let room = roomy_from (length os) (length bs) n l b.1.0 in

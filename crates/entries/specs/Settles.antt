@@ -1,11 +1,12 @@
 -- Settling an interval: its checks, its answer, and what it leaves.
-use Rattle.std.specs.Prelude.{◌≡◌, ℕ, ◌+◌, ◌*◌, ◌≤◌, Bool, ◌&&◌, List, [], ◌∷◌, length, ℤ, ◌+ℤ◌, Ok, Err, Result, nat_le, slice_index}
+use Rattle.std.specs.Prelude.{◌≡◌, ℕ, ◌+◌, ◌*◌, ◌≤◌, Bool, ◌&&◌, List, [], ◌∷◌, length, ℤ, pos, ◌+ℤ◌, Ok, Err, Result, nat_le, slice_index}
 use Rattle.market.specs.declared.records.Order.{Order}
 use Rattle.market.specs.declared.records.Block.{Block}
 use Rattle.market.specs.declared.records.Book.{Book}
 use Rattle.market.specs.declared.records.Fills.{Fills}
 use Rattle.market.specs.declared.refusal.Refusal.{Refusal}
 use Rattle.market.specs.declared.refusal.Refusal.TheVariants.{NoInterval, Short}
+use Rattle.market.specs.Bounds.{in_day, sizes_ok}
 use Rattle.market.specs.First.{tests}
 use Rattle.std.specs.Result.{result_and}
 use Rattle.verdict.specs.Verdict.{paper_checks}
@@ -68,26 +69,18 @@ pub record SameSlices (w w' : Work) : Type 0 where
 
 -- ---- the checks
 
--- the intervals of a day of n are numbered from 1
-abbrev pub interval_ok : ℕ → ℕ → Bool
-interval_ok n i = nat_le 1 i && nat_le i n
-
--- no more orders, blocks and intervals than a book and a day can have
-abbrev pub few : ℕ → ℕ → ℕ → Bool
-few o b n = nat_le o 1024 && (nat_le b 64 && nat_le n 100)
-
 -- working slices of these lengths, for that many entries
 abbrev pub work_ok : ℕ → WorkLengths → Bool
 work_ok entries w = nat_le entries w.numbers && (nat_le entries w.orders && nat_le entries w.blocks)
 
 -- a sheet and working slices of these lengths, for o orders and b blocks in a day of n intervals
 abbrev pub room_ok : ℕ → ℕ → ℕ → Lengths → Bool
-room_ok o b n l = few o b n && (nat_le (o + b * n) l.sheet && work_ok (o + b) l.work)
+room_ok o b n l = sizes_ok n o b && (nat_le (o + b * n) l.sheet && work_ok (o + b) l.work)
 
 -- 3, 11, 12, 13: what is looked at before an interval is settled
 unfoldable pub settle_checks : Settlement → Lengths → Result Unit Refusal
 settle_checks x l =
-    result_and (tests ((interval_ok x.intervals x.interval, NoInterval) ∷ (room_ok (length x.orders) (length x.blocks) x.intervals l, Short) ∷ []))
+    result_and (tests ((in_day x.intervals (pos x.interval), NoInterval) ∷ (room_ok (length x.orders) (length x.blocks) x.intervals l, Short) ∷ []))
     (paper_checks x.intervals x.orders x.order_fills x.blocks x.block_fills)
 
 -- a book with lawful fills, and working slices of these lengths

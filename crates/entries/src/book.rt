@@ -6,7 +6,8 @@ ghost use Rattle.entries.specs.Sheet.{of_interval};
 use market::entry::Entry;
 use market::records::{Book, Side};
 
-// That the book has the place stays a clause of what reads by it: it speaks of book and place together.
+// That the book has the place stays a clause of what reads by it: it speaks of book and place together. Each of them looks among the orders
+// and then the blocks: a closure for what it asks would have two types, an order's and a block's.
 
 /// Whose steps they are.
 #[derive(Clone, Copy)]

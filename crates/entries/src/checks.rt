@@ -1,35 +1,20 @@
 // What is looked at before an interval is settled.
 ghost use Rattle.std.specs.Prelude.{◌≡◌, ◌+◌, length};
-ghost use Rattle.entries.specs.Settles.{settlement_of, lengths, interval_ok, few, room_ok, settle_checks};
+ghost use Rattle.entries.specs.Settles.{settlement_of, lengths, room_ok, settle_checks};
 
 use super::task::Task;
 use super::work::Work;
-use market::bounds::MOST_INTERVALS;
+use market::bounds::is_in_day;
 use market::records::Book;
 use market::refusal::Refusal;
 use verdict::check_paper;
-
-const FIRST_INTERVAL: usize = 1;
-
-// Of settling the interval is a `u32`; market's test of a record's number is of an `i32`, which this one may not fit.
-fn has_interval(intervals: usize, interval: u32) -> bool
-    ensures { result ≡ interval_ok intervals interval }
-{
-    (FIRST_INTERVAL..=intervals).contains(&(interval as usize))
-}
-
-fn are_few(book: Book<'_>, intervals: usize) -> bool
-    ensures { result ≡ few (length book.entry.orders.now) (length book.entry.blocks.now) intervals }
-{
-    book.is_within_limits() && intervals <= MOST_INTERVALS
-}
 
 impl Work<'_> {
     // Whether these slices and a sheet suffice.
     fn suffices(&self, sheet: &[u32], book: Book<'_>, intervals: usize) -> bool
         ensures { result ≡ room_ok (length book.entry.orders.now) (length book.entry.blocks.now) intervals (lengths sheet.now self.now) }
     {
-        if !are_few(book, intervals) {
+        if !book.is_within_limits_in(intervals) {
             return false;
         }
         let orders = book.orders.len();
@@ -49,7 +34,7 @@ impl Task<'_> {
     pub(crate) fn check(self, sheet: &[u32], work: &Work<'_>) -> Result<(), Refusal>
         ensures { result ≡ settle_checks (settlement_of self.entry) (lengths sheet.now work.now) }
     {
-        if !has_interval(self.intervals, self.interval) {
+        if !is_in_day(self.intervals, i64::from(self.interval)) {
             return Err(Refusal::NoInterval);
         }
         if !work.suffices(sheet, self.book, self.intervals) {

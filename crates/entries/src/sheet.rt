@@ -29,7 +29,7 @@ impl Task<'_> {
         }
     }
 
-    // Writes the number of the entry at a place, where it is of the interval.
+    // Writes the number of the entry at a place, where it is of the interval. That the book has the place is asked as where it is read.
     fn put_entry(self, place: usize, number: u32, sheet: &mut [u32])
         requires { (place < length self.book.orders.now + length self.book.blocks.now) × (Fits (length self.book.orders.now) self.intervals self.interval place (length sheet.old)) }
         ensures { sheet.new ≡ (if of_interval self.entry.book.orders.now self.entry.book.blocks.now self.entry.interval place then slice_set sheet.old (place_of (length self.entry.book.orders.now) self.entry.intervals self.entry.interval place) number else sheet.old) }

@@ -1,5 +1,5 @@
 -- The bounds of entry: what the numbers of a day, of an interval's terms, of an order and of a block may be.
-use Rattle.std.specs.Prelude.{ℕ, Bool, ◌&&◌, ◌||◌, List, [], ◌∷◌, ℤ, pos, ◌-ℤ◌, ◌*ℤ◌, neg_ℤ, Ok, Err, Result, int_le, int_lt, nat_le}
+use Rattle.std.specs.Prelude.{ℕ, Bool, ◌&&◌, ◌||◌, List, [], ◌∷◌, ℤ, pos, ◌-ℤ◌, ◌*ℤ◌, neg_ℤ, Ok, Err, Result, int_le, int_lt, nat_le, ◌==◌}
 use Rattle.market.specs.declared.records.Order.{Order}
 use Rattle.market.specs.declared.records.Block.{Block}
 use Rattle.market.specs.declared.refusal.Refusal.{Refusal}
@@ -55,6 +55,18 @@ span_ok n first last = in_day n first && (in_day n last && int_le first last)
 -- so many orders and blocks as a book can have
 abbrev pub limits_ok : ℕ → ℕ → Bool
 limits_ok o b = nat_le o 1024 && nat_le b 64
+
+-- so many intervals as a day can have, and so many orders and blocks as a book can have
+abbrev pub sizes_ok : ℕ → ℕ → ℕ → Bool
+sizes_ok n o b = nat_le n 100 && limits_ok o b
+
+-- of o orders and b blocks, so many fills as there are of each
+abbrev pub each_filled : ℕ → ℕ → ℕ → ℕ → Bool
+each_filled o of b bf = o == of && b == bf
+
+-- a fill of at least the quantity of q steps
+abbrev pub full : ℤ → ℕ → Bool
+full q f = int_le (pos 100 *ℤ q) (pos f)
 
 -- 1, 2: what a day may be started with
 abbrev pub start_bounds : ℤ → ℤ → Result Unit Refusal

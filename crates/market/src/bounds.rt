@@ -1,6 +1,6 @@
 // The bounds of entry.
 ghost use Rattle.std.specs.Prelude.{◌≡◌, pos, ◌-ℤ◌, ◌*ℤ◌};
-ghost use Rattle.market.specs.Bounds.{minutes_ok, count_ok, in_day, price_ok, net_ok, quantity_ok, account_ok, least_ok, span_ok};
+ghost use Rattle.market.specs.Bounds.{minutes_ok, count_ok, in_day, price_ok, net_ok, quantity_ok, account_ok, least_ok, span_ok, full};
 ghost use Rattle.market.specs.Bounds.{start_bounds, terms_bounds};
 
 use super::refusal::Refusal;
@@ -38,11 +38,11 @@ fn is_minutes(minutes: i32) -> bool
 fn is_count(count: i32) -> bool
     ensures { result ≡ count_ok count }
 {
-    is_in_day(MOST_INTERVALS, count)
+    is_in_day(MOST_INTERVALS, i64::from(count))
 }
 
 /// Whether a day of so many intervals has the interval: they are numbered from 1.
-pub fn is_in_day(intervals: usize, interval: i32) -> bool
+pub fn is_in_day(intervals: usize, interval: i64) -> bool
     ensures { result ≡ in_day intervals interval }
 {
     usize::try_from(interval).is_ok_and(|interval| (1..=intervals).contains(&interval))
@@ -59,6 +59,13 @@ pub fn thousandths(steps: i32) -> i64
     ensures { result ≡ pos 100 *ℤ steps }
 {
     THOUSANDTHS_PER_STEP * i64::from(steps)
+}
+
+/// Whether a fill, in thousandths of a MW, is all of a quantity of so many steps.
+pub fn is_full(quantity: i32, fill: u32) -> bool
+    ensures { result ≡ full quantity fill }
+{
+    i64::from(fill) >= thousandths(quantity)
 }
 
 // How far the rounded net position, in thousandths, lies above the net position.
@@ -96,7 +103,7 @@ pub(crate) fn is_percentage(least: i32) -> bool
 pub(crate) fn is_span(intervals: usize, first: i32, last: i32) -> bool
     ensures { result ≡ span_ok intervals first last }
 {
-    is_in_day(intervals, first) && is_in_day(intervals, last) && first <= last
+    is_in_day(intervals, i64::from(first)) && is_in_day(intervals, i64::from(last)) && first <= last
 }
 
 /// What a day may be started with: 1 for the minutes of an interval, then 2 for their count.
@@ -122,7 +129,7 @@ pub fn check_terms(
 ) -> Result<(), Refusal>
     ensures { result ≡ terms_bounds intervals interval price net rounded }
 {
-    if !is_in_day(intervals, interval) {
+    if !is_in_day(intervals, i64::from(interval)) {
         return Err(Refusal::NoInterval);
     }
     if !is_price(price) {

@@ -1,9 +1,9 @@
 // The records that a day is made of. They are plain: the caller's memory can hold any numbers, and judging looks at it.
-ghost use Rattle.std.specs.Prelude.{◌≡◌, length};
-ghost use Rattle.market.specs.Bounds.{limits_ok};
+ghost use Rattle.std.specs.Prelude.{◌≡◌, [], length};
+ghost use Rattle.market.specs.Bounds.{limits_ok, sizes_ok, each_filled};
 ghost use Rattle.market.specs.Signed.{signed, Within};
 
-use super::bounds::{MOST_BLOCKS, MOST_ORDERS};
+use super::bounds::{MOST_BLOCKS, MOST_INTERVALS, MOST_ORDERS};
 use std::fmt;
 
 /// Which way an order or a block trades.
@@ -108,12 +108,30 @@ pub struct Book<'a> {
     pub blocks: &'a [Block],
 }
 
-impl Book<'_> {
+impl<'a> Book<'a> {
+    /// A book without blocks.
+    pub fn of_orders(orders: &'a [Order]) -> Book<'a>
+        ensures orders { result.orders.now ≡ orders.now }
+        ensures blocks { result.blocks.now ≡ [] }
+    {
+        Book {
+            orders,
+            blocks: &[],
+        }
+    }
+
     /// Whether a book can have so many orders and blocks.
     pub fn is_within_limits(self) -> bool
         ensures { result ≡ limits_ok (length self.entry.orders.now) (length self.entry.blocks.now) }
     {
         self.orders.len() <= MOST_ORDERS && self.blocks.len() <= MOST_BLOCKS
+    }
+
+    /// The same, and whether a day can have so many intervals.
+    pub fn is_within_limits_in(self, intervals: usize) -> bool
+        ensures { result ≡ sizes_ok intervals (length self.entry.orders.now) (length self.entry.blocks.now) }
+    {
+        intervals <= MOST_INTERVALS && self.is_within_limits()
     }
 }
 
@@ -122,4 +140,24 @@ impl Book<'_> {
 pub struct Fills<'a> {
     pub orders: &'a [u32],
     pub blocks: &'a [u32],
+}
+
+impl<'a> Fills<'a> {
+    /// The fills of a book without blocks.
+    pub fn of_orders(fills: &'a [u32]) -> Fills<'a>
+        ensures orders { result.orders.now ≡ fills.now }
+        ensures blocks { result.blocks.now ≡ [] }
+    {
+        Fills {
+            orders: fills,
+            blocks: &[],
+        }
+    }
+
+    /// Whether there is one for each entry of a book.
+    pub fn fit(self, book: Book<'_>) -> bool
+        ensures { result ≡ each_filled (length book.entry.orders.now) (length self.entry.orders.now) (length book.entry.blocks.now) (length self.entry.blocks.now) }
+    {
+        book.orders.len() == self.orders.len() && book.blocks.len() == self.blocks.len()
+    }
 }

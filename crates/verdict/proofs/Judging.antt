@@ -1,5 +1,5 @@
 -- What an accepted phase gives to the next ones.
-use Rattle.std.proofs.Common.{◌≡◌, ℕ, ◌≤◌, true, ◌&&◌, leb, List, [], ◌∷◌, length, Ok, Err, Result, refl, ◌∙◌, arith}
+use Rattle.std.proofs.Common.{◌≡◌, ℕ, ◌≤◌, true, List, [], ◌∷◌, length, Ok, Err, Result, refl, ◌∙◌, arith}
 use Rattle.std.proofs.lemmas.Bool.Decides.{nat_tests}
 use Rattle.market.specs.declared.records.Order.{Order}
 use Rattle.market.specs.declared.records.Block.{Block}
@@ -20,17 +20,17 @@ use Rattle.verdict.proofs.Sizes.{fill_small, span_small}
 -- ---- the lengths
 pub sized_from : (n : ℕ) (os : List Order) (fs : List ℕ) (bs : List Block) (gs : List ℕ) → paper_lengths n os fs bs gs ≡ Ok tt → (n ≤ 100) × Sized os fs bs gs
 sized_from n os fs bs gs e =
-    let t : (leb n 100 && lengths_ok os fs bs gs) ≡ true = (tests_out (((leb n 100 && lengths_ok os fs bs gs), _) ∷ []) e).0 in
+    let t : lengths_ok n os fs bs gs ≡ true = (tests_out ((lengths_ok n os fs bs gs, _) ∷ []) e).0 in
     (grind (arith, nat_tests), record { orders = grind (arith, nat_tests); blocks = grind (arith, nat_tests); few = grind (arith, nat_tests); fewer = grind (arith, nat_tests) })
 
 pub fits_from : (day : List Interval) (os : List Order) (fs : List ℕ) (bs : List Block) (gs : List ℕ) → lengths day os fs bs gs ≡ Ok tt → Fits day os fs bs gs
 fits_from day os fs bs gs e = let p = sized_from (length day) os fs bs gs e in record { short = p.0; sized = p.1 }
 
-pub fits_test : (day : List Interval) (os : List Order) (fs : List ℕ) (bs : List Block) (gs : List ℕ) → Fits day os fs bs gs → (leb (length day) 100 && lengths_ok os fs bs gs) ≡ true
+pub fits_test : (day : List Interval) (os : List Order) (fs : List ℕ) (bs : List Block) (gs : List ℕ) → Fits day os fs bs gs → lengths_ok (length day) os fs bs gs ≡ true
 fits_test day os fs bs gs h = let z = h.sized in grind (arith, nat_tests)
 
 pub fits_back : (day : List Interval) (os : List Order) (fs : List ℕ) (bs : List Block) (gs : List ℕ) → Fits day os fs bs gs → lengths day os fs bs gs ≡ Ok tt
-fits_back day os fs bs gs h = tests_back ((leb (length day) 100 && lengths_ok os fs bs gs, _) ∷ []) (fits_test day os fs bs gs h, tt)
+fits_back day os fs bs gs h = tests_back ((lengths_ok (length day) os fs bs gs, _) ∷ []) (fits_test day os fs bs gs h, tt)
 
 -- ---- the bounds of entry
 pub outside_out : (k : ℕ) (r : Result Unit Refusal) → outside k r ≡ Ok tt → r ≡ Ok tt

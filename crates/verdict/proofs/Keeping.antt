@@ -12,6 +12,7 @@ use Rattle.market.specs.declared.records.Interval.{Interval}
 use Rattle.market.specs.declared.refusal.Refusal.{Refusal}
 use Rattle.market.specs.First.{tests}
 use Rattle.market.specs.Bounds as B
+use Rattle.market.specs.Bounds.{full}
 use Rattle.verdict.specs.Rules as R
 use Rattle.verdict.specs.Passes.{FromTo, LawfulOrder, LawfulBlock, EmptyIfWorse, FullIfBetter, OrderMeetsPrice, BlockMeetsLeast, Pays, BlockMeetsPrice, BlockMeets}
 use Rattle.market.proofs.Facts.{tests_out, tests_back, between_two, order_tests, block_tests}
@@ -75,11 +76,11 @@ module _ (l p : ℤ) (f : ℕ) where
   empty_back Sell r = grind (arith, ints, nat_tests)
   empty_back Buy r = grind (arith, ints, nat_tests)
 
-  pub full_out : (s : Side) (q : ℤ) → (not (R.beats s l p) || R.full q f) ≡ true → FullIfBetter s l p q f
+  pub full_out : (s : Side) (q : ℤ) → (not (R.beats s l p) || full q f) ≡ true → FullIfBetter s l p q f
   full_out Sell q e = λ h. grind (arith, ints, nat_tests)
   full_out Buy q e = λ h. grind (arith, ints, nat_tests)
 
-  pub full_back : (s : Side) (q : ℤ) → FullIfBetter s l p q f → (not (R.beats s l p) || R.full q f) ≡ true
+  pub full_back : (s : Side) (q : ℤ) → FullIfBetter s l p q f → (not (R.beats s l p) || full q f) ≡ true
   full_back Sell q r = grind (arith, ints, nat_tests)
   full_back Buy q r = grind (arith, ints, nat_tests)
 
@@ -129,12 +130,12 @@ module _ (day : List Interval) (o : Order) (f k : ℕ) where
 
   pub order_price_out : R.order_price day o f k ≡ Ok tt → OrderMeetsPrice day o f
   order_price_out e =
-      let t = tests_out ((not (R.misses o.side o.limit at_price) || eqb f 0, _) ∷ (not (R.beats o.side o.limit at_price) || R.full o.quantity f, _) ∷ []) e in
+      let t = tests_out ((not (R.misses o.side o.limit at_price) || eqb f 0, _) ∷ (not (R.beats o.side o.limit at_price) || full o.quantity f, _) ∷ []) e in
       record { empty = empty_out o.limit at_price f o.side t.0; full = full_out o.limit at_price f o.side o.quantity t.1.0 }
 
   pub order_price_back : OrderMeetsPrice day o f → R.order_price day o f k ≡ Ok tt
   order_price_back m =
-      tests_back ((not (R.misses o.side o.limit at_price) || eqb f 0, _) ∷ (not (R.beats o.side o.limit at_price) || R.full o.quantity f, _) ∷ [])
+      tests_back ((not (R.misses o.side o.limit at_price) || eqb f 0, _) ∷ (not (R.beats o.side o.limit at_price) || full o.quantity f, _) ∷ [])
       (empty_back o.limit at_price f o.side m.empty, (full_back o.limit at_price f o.side o.quantity m.full, tt))
 
 module _ (day : List Interval) (b : Block) (f k : ℕ) where

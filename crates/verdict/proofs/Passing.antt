@@ -1,5 +1,5 @@
 -- The verdict accepts a paper exactly where everything is in order and every rule holds; else it names the first that is broken.
-use Rattle.std.proofs.Common.{◌≡◌, ℕ, zero, suc, ◌+◌, ◌<◌, true, not, ◌&&◌, ◌||◌, eqb, leb, ◌⊎◌, List, [], ◌∷◌, length, get_or, replicate, ℤ, pos, Ok, Err, Result, sym, refl, ap, ◌∙◌, subst, inl, inr, ⊎_elim, arith}
+use Rattle.std.proofs.Common.{◌≡◌, ℕ, zero, suc, ◌+◌, ◌<◌, true, not, ◌||◌, eqb, ◌⊎◌, List, [], ◌∷◌, length, get_or, replicate, ℤ, pos, Ok, Err, Result, sym, refl, ap, ◌∙◌, subst, inl, inr, ⊎_elim, arith}
 use Rattle.std.specs.List.{AllByRecursion as Every}
 use Rattle.std.proofs.lemmas.List.{length-replicate}
 use Rattle.market.specs.declared.records.Order.{Order}
@@ -12,7 +12,8 @@ use Rattle.std.specs.List.{AllZip}
 use Rattle.std.specs.Result.{result_and}
 use Rattle.verdict.specs.Walks.{first_in, first_filled}
 use Rattle.market.specs.Bounds.{same, order_bounds, block_bounds, outside}
-use Rattle.verdict.specs.Rules.{price_at, misses, beats, full, within, thousandths, enough, quantity_rule, order_price, block_price}
+use Rattle.market.specs.Bounds.{full}
+use Rattle.verdict.specs.Rules.{price_at, misses, beats, within, thousandths, enough, quantity_rule, order_price, block_price}
 use Rattle.verdict.specs.Balance.{net_of, interval_balance, welfare}
 use Rattle.verdict.specs.Verdict.{lengths_ok, lengths, next, bounds, quantities, prices, balances, verdict_of}
 use Rattle.verdict.specs.Passes.{LawfulOrder, LawfulBlock, LawfulBook, Fits, WithinQuantity, OrderMeetsPrice, BlockMeets, WithinBook, BalancedAt, Balanced, Passes}
@@ -204,7 +205,7 @@ module _ (day : List Interval) (os : List Order) (fs : List ℕ) (bs : List Bloc
 
     first_broken : verdict_of day os fs bs gs ≡ Err e → FirstBroken day os fs bs gs e
     first_broken v = ⊎_elim
-        (λ p. let t = one_err (leb n 100 && lengths_ok os fs bs gs) Short e p in inl (fails (leb n 100 && lengths_ok os fs bs gs) t.0 (fits_test day os fs bs gs), t.1))
+        (λ p. let t = one_err (lengths_ok n os fs bs gs) Short e p in inl (fails (lengths_ok n os fs bs gs) t.0 (fits_test day os fs bs gs), t.1))
         (λ p. let z = fits_from day os fs bs gs p.0 in inr (
           z,
           ⊎_elim

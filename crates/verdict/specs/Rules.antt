@@ -8,6 +8,7 @@ use Rattle.market.specs.declared.records.Block.{Block}
 use Rattle.market.specs.declared.records.Interval.{Interval}
 use Rattle.market.specs.declared.refusal.Refusal.{Refusal}
 use Rattle.market.specs.declared.refusal.Refusal.TheVariants.{OverQuantity, ShouldBeEmpty, ShouldBeFull, BelowLeast, BlockPrice}
+use Rattle.market.specs.Bounds.{full}
 use Rattle.market.specs.First.{tests}
 use Rattle.market.specs.Blank.{fresh}
 
@@ -40,10 +41,6 @@ misses Buy limit price = int_lt limit price
 abbrev pub beats : Side → ℤ → ℤ → Bool
 beats Sell limit price = int_lt limit price
 beats Buy limit price = int_lt price limit
-
--- a fill of at least the quantity
-abbrev pub full : ℤ → ℕ → Bool
-full q f = int_le (thousandths q) (pos f)
 
 -- 14, 15: an order's fill beside the price of its interval
 abbrev pub order_price : List Interval → Order → ℕ → ℕ → Result Unit Refusal

@@ -1,5 +1,5 @@
 -- The verdict: the phases in their order.
-use Rattle.std.specs.Prelude.{◌≡◌, ℕ, ◌+◌, ◌≤◌, Bool, ◌&&◌, List, [], ◌∷◌, length, ℤ, Ok, Result, ◌==◌, nat_le}
+use Rattle.std.specs.Prelude.{◌≡◌, ℕ, ◌+◌, ◌≤◌, Bool, ◌&&◌, List, [], ◌∷◌, length, ℤ, Ok, Result}
 use Rattle.market.specs.declared.records.Order.{Order}
 use Rattle.market.specs.declared.records.Block.{Block}
 use Rattle.market.specs.declared.records.Interval.{Interval}
@@ -8,7 +8,7 @@ use Rattle.market.specs.declared.refusal.Refusal.TheVariants.{Short}
 use Rattle.market.specs.First.{tests}
 use Rattle.std.specs.Result.{result_and}
 use Rattle.verdict.specs.Walks.{first_in, first_filled}
-use Rattle.market.specs.Bounds.{order_bounds, block_bounds, outside}
+use Rattle.market.specs.Bounds.{sizes_ok, each_filled, order_bounds, block_bounds, outside}
 use Rattle.verdict.specs.Rules.{quantity_rule, order_price, block_price}
 use Rattle.verdict.specs.Balance.{interval_balance, welfare}
 
@@ -19,13 +19,13 @@ pub record Sized (os : List Order) (fs : List ℕ) (bs : List Block) (gs : List 
   pub few : length os ≤ 1024
   pub fewer : length bs ≤ 64
 
--- the test of the lengths of a paper
-abbrev pub lengths_ok : List Order → List ℕ → List Block → List ℕ → Bool
-lengths_ok os fs bs gs = length os == length fs && (length bs == length gs && (nat_le (length os) 1024 && nat_le (length bs) 64))
+-- no more intervals, orders and blocks than there can be, and a fill for each entry
+abbrev pub lengths_ok : ℕ → List Order → List ℕ → List Block → List ℕ → Bool
+lengths_ok n os fs bs gs = sizes_ok n (length os) (length bs) && each_filled (length os) (length fs) (length bs) (length gs)
 
--- 11: at most n = 100 intervals, and a paper of lawful lengths
+-- 11: a paper of lawful lengths, in a day of n intervals
 abbrev pub paper_lengths : ℕ → List Order → List ℕ → List Block → List ℕ → Result Unit Refusal
-paper_lengths n os fs bs gs = tests ((nat_le n 100 && lengths_ok os fs bs gs, Short) ∷ [])
+paper_lengths n os fs bs gs = tests ((lengths_ok n os fs bs gs, Short) ∷ [])
 
 -- the same of a day
 abbrev pub lengths : List Interval → List Order → List ℕ → List Block → List ℕ → Result Unit Refusal
@@ -48,13 +48,9 @@ quantities os fs bs gs =
 abbrev pub paper_checks : ℕ → List Order → List ℕ → List Block → List ℕ → Result Unit Refusal
 paper_checks n os fs bs gs = result_and (paper_lengths n os fs bs gs) (result_and (bounds n os bs) (quantities os fs bs gs))
 
--- the test of the lengths of a book in a day of n intervals
-abbrev pub book_lengths_ok : ℕ → List Order → List Block → Bool
-book_lengths_ok n os bs = nat_le n 100 && (nat_le (length os) 1024 && nat_le (length bs) 64)
-
 -- 11, 12: a book without a paper
 abbrev pub book_checks : ℕ → List Order → List Block → Result Unit Refusal
-book_checks n os bs = result_and (tests ((book_lengths_ok n os bs, Short) ∷ [])) (bounds n os bs)
+book_checks n os bs = result_and (tests ((sizes_ok n (length os) (length bs), Short) ∷ [])) (bounds n os bs)
 
 -- 14 and 15 by entry of the orders, then 16 and 17 by entry of the blocks
 abbrev pub prices : List Interval → List Order → List ℕ → List Block → List ℕ → Result Unit Refusal

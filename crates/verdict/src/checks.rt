@@ -2,7 +2,7 @@
 ghost use Rattle.std.specs.Prelude.{◌≡◌};
 ghost use Rattle.verdict.specs.Verdict.{paper_checks, book_checks};
 
-use super::paper::{Paper, has_lawful_lengths};
+use super::paper::Paper;
 use super::phases::bounds;
 use market::records::{Book, Fills};
 use market::refusal::Refusal;
@@ -22,7 +22,7 @@ pub fn check_paper(intervals: usize, book: Book<'_>, fills: Fills<'_>) -> Result
 pub fn check_book(intervals: usize, book: Book<'_>) -> Result<(), Refusal>
     ensures { result ≡ book_checks intervals book.entry.orders.now book.entry.blocks.now }
 {
-    if !has_lawful_lengths(intervals, book) {
+    if !book.is_within_limits_in(intervals) {
         return Err(Refusal::Short);
     }
     bounds(intervals, book)

@@ -1,10 +1,9 @@
 // A paper on a book, once its lengths are looked at.
 ghost use Rattle.std.specs.Prelude.{◌≡◌, ◌+◌, ◌≤◌, length, Ok, Err, IfOk, MatchResult};
-ghost use Rattle.verdict.specs.Verdict.{Sized, book_lengths_ok, paper_lengths, quantities};
+ghost use Rattle.verdict.specs.Verdict.{Sized, paper_lengths, quantities};
 
 use super::rules::Quantities;
 use super::walk::first_broken;
-use market::bounds::MOST_INTERVALS;
 use market::records::{Book, Fills};
 use market::refusal::Refusal;
 
@@ -16,14 +15,8 @@ pub(crate) struct Paper<'a, 'b> {
     ghost sized: { Sized book.orders.now fills.orders.now book.blocks.now fills.blocks.now },
 }
 
-/// Whether a day can have so many intervals, and a book so many entries.
-pub(crate) fn has_lawful_lengths(intervals: usize, book: Book<'_>) -> bool
-    ensures { result ≡ book_lengths_ok intervals book.entry.orders.now book.entry.blocks.now }
-{
-    intervals <= MOST_INTERVALS && book.is_within_limits()
-}
-
-/// The entry of the first block. How many orders there are is asked of the book and not of a `Paper`: `bounds` has a book without fills.
+// How many orders there are is asked of the book and not of a `Paper`: `bounds` has a book without fills.
+/// The entry of the first block.
 pub(crate) fn next_entry(book: Book<'_>) -> u32
     requires { length book.orders.now ≤ 1024 }
     ensures { result ≡ length book.entry.orders.now + 1 }
@@ -44,10 +37,7 @@ impl<'a, 'b> Paper<'a, 'b> {
         ensures judged { let lengths = paper_lengths intervals book.entry.orders.now fills.entry.orders.now book.entry.blocks.now fills.entry.blocks.now
             in MatchResult result (λ _. lengths ≡ Ok tt) (λ e. lengths ≡ Err e) }
     {
-        if !has_lawful_lengths(intervals, book)
-            || book.orders.len() != fills.orders.len()
-            || book.blocks.len() != fills.blocks.len()
-        {
+        if !book.is_within_limits_in(intervals) || !fills.fit(book) {
             return Err(Refusal::Short);
         }
         Ok(Paper { book, fills })

@@ -10,7 +10,8 @@ use super::welfare::Worths;
 use market::records::{Book, Fills, Interval};
 use market::refusal::Refusal;
 
-/// 12: the bounds of entry, in a day of so many intervals. Asked of the book and not of a `Paper`: `check_book` has no fills.
+// How many entries there are is asked of the book and not of a `Paper`: `check_book` has no fills.
+/// 12: the bounds of entry, in a day of so many intervals.
 pub(crate) fn bounds(intervals: usize, book: Book<'_>) -> Result<(), Refusal>
     requires { (length book.orders.now ≤ 1024) × (length book.blocks.now ≤ 64) }
     ensures { result ≡ bounds intervals book.entry.orders.now book.entry.blocks.now }

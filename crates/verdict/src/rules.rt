@@ -1,11 +1,11 @@
 // The rules on one record, and on one entry with its fill.
 ghost use Rattle.std.specs.Prelude.{◌≡◌, ℕ, ◌≤◌, true, length, pos, ◌*ℤ◌, ◌≤ℤ◌, Ok};
-ghost use Rattle.market.specs.Bounds.{in_day, quantity_ok, least_ok, span_ok, order_bounds, block_bounds, outside};
-ghost use Rattle.verdict.specs.Rules.{within, full, quantity_rule, price_at, misses, beats, order_price};
+ghost use Rattle.market.specs.Bounds.{full, in_day, quantity_ok, least_ok, span_ok, order_bounds, block_bounds, outside};
+ghost use Rattle.verdict.specs.Rules.{within, quantity_rule, price_at, misses, beats, order_price};
 ghost use Rattle.verdict.specs.Rules.{enough, price_sum, block_prices, span, pays, block_price};
 
 use super::walk::{Check, Rule};
-use market::bounds::thousandths;
+use market::bounds::{is_full, thousandths};
 use market::entry::Entry;
 use market::records::{Block, Interval, Order, Side};
 use market::refusal::Refusal;
@@ -51,7 +51,8 @@ pub(crate) struct Prices<'a> {
     ghost short: { length day.now ≤ 100 },
 }
 
-fn is_missed(side: Side, limit: i32, price: i32) -> bool
+// Of one price and limit, and of a block's added up.
+fn is_missed(side: Side, limit: i64, price: i64) -> bool
     ensures { result ≡ misses side limit price }
 {
     match side {
@@ -60,8 +61,8 @@ fn is_missed(side: Side, limit: i32, price: i32) -> bool
     }
 }
 
-// Not `is_missed` with its numbers exchanged: a reader of the rules would have to turn limit and price round in each of its lines.
-fn is_beaten(side: Side, limit: i32, price: i32) -> bool
+// Not `is_missed` with limit and price exchanged: that would read as a price which misses a limit, and no rule says so.
+fn is_beaten(side: Side, limit: i64, price: i64) -> bool
     ensures { result ≡ beats side limit price }
 {
     match side {
@@ -73,16 +74,7 @@ fn is_beaten(side: Side, limit: i32, price: i32) -> bool
 fn is_paid(side: Side, limits: i64, prices: i64) -> bool
     ensures { result ≡ pays side limits prices }
 {
-    match side {
-        Side::Sell => limits <= prices,
-        Side::Buy => limits >= prices,
-    }
-}
-
-fn is_full(quantity: i32, fill: u32) -> bool
-    ensures { result ≡ full quantity fill }
-{
-    i64::from(fill) >= thousandths(quantity)
+    !is_missed(side, limits, prices)
 }
 
 impl<'a> Rule<Order> for Prices<'a> {
@@ -91,11 +83,12 @@ impl<'a> Rule<Order> for Prices<'a> {
     ghost answer = { λ p o f k. order_price p.day.now o f k };
 
     fn judge(&self, x: &Order, fill: u32, entry: u32) -> Result<(), Refusal> {
-        let price = self.at(x.interval);
-        if fill != 0 && is_missed(x.side, x.limit, price) {
+        let limit = i64::from(x.limit);
+        let price = i64::from(self.at(x.interval));
+        if is_missed(x.side, limit, price) && fill != 0 {
             return Err(Refusal::ShouldBeEmpty { entry });
         }
-        if is_beaten(x.side, x.limit, price) && !is_full(x.quantity, fill) {
+        if is_beaten(x.side, limit, price) && !is_full(x.quantity, fill) {
             return Err(Refusal::ShouldBeFull { entry });
         }
         Ok(())

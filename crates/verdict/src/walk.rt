@@ -49,6 +49,7 @@ pub(crate) trait Rule<T> {
         ensures { result ≡ answer self.now x.now fill «entry» };
 }
 
+// Not `first_refused` over pairs: entries and fills are lent as two slices, and a slice of pairs would need a heap.
 /// What the first entry answers that breaks the rule.
 pub(crate) fn first_broken<T, R: Rule<T>>(
     rule: &R,

@@ -8,6 +8,8 @@ use super::rules::span;
 use super::walk::Amount;
 use market::records::{Block, Order, Side};
 
+// Not `Side::signed`, which promises that its answer is small because a count is; and with a sell's minus it is the other way round.
+// That limit and fill are mild stays a clause here and below: it speaks of an entry and its fill together.
 fn worth(side: Side, limit: i32, fill: u32) -> i64
     requires { Mild limit fill }
     ensures is { result ≡ worth side limit fill }

@@ -15,7 +15,7 @@ impl Closed {
         ensures best { PaperBest self.now day.now memory.entry.orders.now fills.entry.orders.now memory.entry.blocks.now fills.entry.blocks.now result }
     {
         let book = self.counts.held(memory).ok_or(Refusal::Short)?;
-        if fills.orders.len() != self.counts.orders || fills.blocks.len() != self.counts.blocks {
+        if !fills.fit(book) {
             return Err(Refusal::Short);
         }
         verdict(day.intervals(), book, fills)

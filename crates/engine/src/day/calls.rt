@@ -46,11 +46,7 @@ impl Day {
     pub fn interval(&self, number: i32) -> Option<Interval>
         ensures { result ≡ shown self.now number }
     {
-        if is_in_day(self.count, number) {
-            Some(self.record(number))
-        } else {
-            None
-        }
+        is_in_day(self.count, i64::from(number)).then(|| self.record(number))
     }
 
     /// The records of the day's intervals, in their order.
@@ -78,6 +74,7 @@ impl Day {
         self.intervals[self.place(interval)]
     }
 
+    // A record is plain, so that its terms are lawful is asked here as in `open_part`.
     pub(crate) fn put(&mut self, interval: i32, record: Interval)
         requires { (in_day self.old.count interval ≡ true) × (terms_lawful «record» ≡ true) }
         ensures { Recorded self.old (place_of interval) «record» self.new }

@@ -14,7 +14,8 @@ use market::records::{Interval, Mark};
 const MINUTES_PER_QUARTER: u32 = 15;
 
 impl Day {
-    // A `let else`, since of an `is_some_and` over the record the proof stays open.
+    // A `let else`, since of an `is_some_and` over the record the proof stays open. Booking and noting ask this and give the remainder back
+    // in lines of their own: a method that took it and handed it on was tried, and needs a proof in each of them that it is the same one.
     pub(crate) fn shows_out(&self, remainder: &Remainder) -> bool
         ensures { result ≡ shows_out self.now remainder.now.interval remainder.now.steps }
     {
@@ -49,7 +50,7 @@ impl Day {
         self.put(interval, Interval { mark, ..record });
     }
 
-    // What a record of the day is settled by.
+    // What a record of the day is settled by. A record is plain, so that its terms are lawful is asked here as in `open_part`.
     pub(crate) fn terms_of(&self, record: Interval) -> Terms
         requires { terms_lawful «record» ≡ true }
         ensures { conditions result ≡ conditions_in self.now.minutes «record» }

@@ -35,7 +35,7 @@ impl Entry for Order {
 
     /// 3 for the interval, 4 for the limit, 7 for the quantity, 8 for the account.
     fn check_bounds(&self, intervals: usize) -> Result<(), Refusal> {
-        if !is_in_day(intervals, self.interval) {
+        if !is_in_day(intervals, i64::from(self.interval)) {
             return Err(Refusal::NoInterval);
         }
         if !is_price(self.limit) {
