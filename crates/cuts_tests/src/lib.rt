@@ -296,26 +296,14 @@ mod tests {
             orders: &mut order_list,
             blocks: &mut block_list,
         };
-        let sell = Book {
-            orders: &[SELL],
-            blocks: &[],
-        };
-        let none = Fills {
-            orders: &[],
-            blocks: &[],
-        };
+        let sell = Book::of_orders(&[SELL]);
+        let none = Fills::of_orders(&[]);
         assert_eq!(rt;
             settled_numbers(sell, none, 1, 0, &mut lists, &mut numbers),
             None
         );
-        let sells = Book {
-            orders: &[SELL, SELL],
-            blocks: &[],
-        };
-        let two = Fills {
-            orders: &[100, 100],
-            blocks: &[],
-        };
+        let sells = Book::of_orders(&[SELL, SELL]);
+        let two = Fills::of_orders(&[100, 100]);
         assert_eq!(rt;
             settled_numbers(sells, two, 1, 0, &mut lists, &mut numbers),
             None
@@ -363,12 +351,8 @@ mod tests {
 
     // Each order has a lower limit than the one before, so that each is inserted in front.
     fn fall(orders: &mut [Order]) {
-        let mut limit = 400_000;
-        for order in orders.iter_mut() {
+        for (order, limit) in orders.iter_mut().zip((0..=400_000).rev()) {
             order.limit = limit;
-            if limit > 0 {
-                limit -= 1;
-            }
         }
     }
 
@@ -383,14 +367,8 @@ mod tests {
         let fills = [1_000_000; 1024];
         let mut order_list = [OrderCandidate::BLANK; 1024];
         let mut numbers = [0; 1024];
-        let book = Book {
-            orders: &orders,
-            blocks: &[],
-        };
-        let fills = Fills {
-            orders: &fills,
-            blocks: &[],
-        };
+        let book = Book::of_orders(&orders);
+        let fills = Fills::of_orders(&fills);
         let mut lists = Lists {
             orders: &mut order_list,
             blocks: &mut [],

@@ -102,14 +102,8 @@ fn a_memory_shorter_than_its_count_is_refused(rt: HostRuntime) -> Result<(), Fai
     let mut memory = [PLAIN; 2];
     book.enter_order(&day, &mut memory, PLAIN)?;
     book.enter_order(&day, &mut memory, PLAIN)?;
-    let short = Book {
-        orders: &memory[0..1],
-        blocks: &[],
-    };
-    let fills = Fills {
-        orders: &[0, 0],
-        blocks: &[],
-    };
+    let short = Book::of_orders(&memory[0..1]);
+    let fills = Fills::of_orders(&[0, 0]);
     let Err(fail) = book.close().judge(&day, short, fills) else {
         return Err(Fail::new("a short memory passed"));
     };

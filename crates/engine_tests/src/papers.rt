@@ -106,22 +106,17 @@ fn block_percentages(rt: HostRuntime) {
 
 #[test]
 fn block_prices(rt: HostRuntime) {
-    for (side, second, refused) in [
-        (Side::Sell, 4_100, 0),
-        (Side::Sell, 4_099, 17),
-        (Side::Buy, 4_100, 0),
-        (Side::Buy, 4_101, 17),
+    for (side, second, expected) in [
+        (Side::Sell, 4_100, Ok(-8_000_000)),
+        (Side::Sell, 4_099, Err((17, 1))),
+        (Side::Buy, 4_100, Ok(8_000_000)),
+        (Side::Buy, 4_101, Err((17, 1))),
     ] {
         let net = match side {
             Side::Sell => 1_000,
             Side::Buy => -1_000,
         };
         let day = [interval(3_900, net), interval(second, net)];
-        let expected = if refused == 0 {
-            Ok(8_000 * -i64::from(net))
-        } else {
-            Err((refused, 1))
-        };
         let found = answer(
             &day,
             &[],

@@ -24,6 +24,7 @@ fn small(number: u32) -> Account {
     account(number, 0, -10, 10)
 }
 
+// A refusal of the check and one of a posting are two types, and no trait joins them for their two methods.
 /// What the check answers.
 fn checked(records: &mut [Account]) -> Answer {
     let answer = (Table { records }).check();

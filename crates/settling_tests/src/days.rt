@@ -50,20 +50,6 @@ fn enter_all(
     Ok(book.close())
 }
 
-/// A book without blocks, and a paper on it.
-pub(crate) fn only_orders<'a>(orders: &'a [Order], fills: &'a [u32]) -> (Book<'a>, Fills<'a>) {
-    (
-        Book {
-            orders,
-            blocks: &[],
-        },
-        Fills {
-            orders: fills,
-            blocks: &[],
-        },
-    )
-}
-
 /// The book on which a paper passes.
 pub(crate) fn passed(
     closed: Closed,
@@ -88,8 +74,12 @@ pub(crate) fn passed_day(
     book.terms(&mut day, 1, price, 350, rounded)?;
     let mut memory = orders(price);
     let closed = enter_all(&day, book, &mut memory, &orders(price))?;
-    let (book, fills) = only_orders(&memory, fills);
-    let passed = passed(closed, &day, book, fills)?;
+    let passed = passed(
+        closed,
+        &day,
+        Book::of_orders(&memory),
+        Fills::of_orders(fills),
+    )?;
     Ok((day, passed))
 }
 
@@ -112,6 +102,8 @@ pub(crate) fn settle_and_note<L: Ledger>(
     }
 }
 
+// The working slices of three entries are built where they are lent, here and below: arrays and what is lent of them cannot be handed out
+// together, and the libraries have no heap.
 /// Settles the interval of a day with three entries, and notes its remainder.
 pub(crate) fn settle_three<L: Ledger>(
     passed: &Passed,
@@ -141,9 +133,10 @@ pub(crate) fn offered_elsewhere<L: Ledger>(
     price: i32,
     sheet: &mut [u32],
     ledger: &mut L,
-) -> Result<(u32, u32), Refusal> {
+) -> Result<(u32, u32), Fail> {
     let orders = orders(price);
-    let (book, fills) = only_orders(&orders, &FILLS);
+    let book = Book::of_orders(&orders);
+    let fills = Fills::of_orders(&FILLS);
     let lists = Lists {
         orders: &mut [OrderCandidate::BLANK; 3],
         blocks: &mut [BlockCandidate::BLANK; 3],
@@ -154,14 +147,14 @@ pub(crate) fn offered_elsewhere<L: Ledger>(
     };
     let remainder = passed.settle(day, book, fills, sheet, &mut work, ledger, 1)?;
     let Err(returned) = other.book(ledger, remainder) else {
-        return Ok((0, 0));
+        return Err(Fail::new("the other day should not book it"));
     };
     let Returned {
         refusal: booking,
         remainder,
     } = returned;
     let Err(returned) = other.note(remainder) else {
-        return Ok((booking.number(), 0));
+        return Err(Fail::new("the other day should not note it"));
     };
     let Returned {
         refusal: noting,

@@ -1,8 +1,9 @@
 // What settling leaves, accepted and refused.
-use crate::days::{FILLS, offered_elsewhere, only_orders, orders, passed_day, settle_three};
+use crate::days::{FILLS, offered_elsewhere, orders, passed_day, settle_three};
 use engine::refusal::Refusal;
 use ledger::{Account, PostRefused};
 use ledgers::Table;
+use market::records::{Book, Fills};
 use std::test::Fail;
 
 const WIDE: i64 = 10_000_000;
@@ -42,7 +43,8 @@ fn amounts(rt: HostRuntime) -> Result<(), Fail> {
             records: &mut records,
         };
         let orders = orders(price);
-        let (book, fills) = only_orders(&orders, &FILLS);
+        let book = Book::of_orders(&orders);
+        let fills = Fills::of_orders(&FILLS);
         assert_eq!(rt;
             settle_three(&passed, &mut day, book, fills, &mut sheet, &mut table),
             Ok(0)
@@ -88,7 +90,8 @@ fn refused_postings(rt: HostRuntime) -> Result<(), Fail> {
             records: &mut records,
         };
         let orders = orders(5_000);
-        let (book, fills) = only_orders(&orders, &FILLS);
+        let book = Book::of_orders(&orders);
+        let fills = Fills::of_orders(&FILLS);
         assert_eq!(rt;
             settle_three(&passed, &mut day, book, fills, &mut sheet, &mut table),
             Err(Refusal::Posting(refused))
@@ -111,7 +114,8 @@ fn a_negative_gap_cuts_buys(rt: HostRuntime) -> Result<(), Fail> {
         records: &mut records,
     };
     let orders = orders(5_000);
-    let (book, fills) = only_orders(&orders, &fills);
+    let book = Book::of_orders(&orders);
+    let fills = Fills::of_orders(&fills);
     assert_eq!(rt;
         settle_three(&passed, &mut day, book, fills, &mut sheet, &mut table),
         Ok(0)
@@ -140,8 +144,8 @@ fn a_foreign_remainder_is_given_back(rt: HostRuntime) -> Result<(), Fail> {
             5_000,
             &mut [0; 3],
             &mut table,
-        ),
-        Ok((22, 22))
+        )?,
+        (22, 22)
     );
     assert_eq!(rt; day.open_worth(), 0);
     Ok(())

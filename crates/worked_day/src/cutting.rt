@@ -17,6 +17,10 @@ fn show_entries(rt: &HostRuntime, rounded: &[u32], settled: &[u32]) -> anyhow::R
     Ok(())
 }
 
+fn unfitting() -> anyhow::Error {
+    anyhow!("the fills do not belong to the book")
+}
+
 /// Rounds and cuts the orders of interval 1, and tells what became of each.
 pub(crate) fn show_cuts(
     rt: &HostRuntime,
@@ -33,15 +37,13 @@ pub(crate) fn show_cuts(
         orders: &mut ranked,
         blocks: &mut [],
     };
-    let Some(gap) = rounded_numbers(book, fills, 1, rounded, &mut before) else {
-        return Err(anyhow!("the fills do not belong to the book"));
-    };
+    let gap = rounded_numbers(book, fills, 1, rounded, &mut before).ok_or_else(unfitting)?;
     println!(rt;
         "In steps, rounded sells less rounded buys less the rounded net position leave a gap of {gap}."
     )?;
-    let Some(remainder) = settled_numbers(book, fills, 1, rounded, &mut lists, &mut after) else {
-        return Err(anyhow!("the fills do not belong to the book"));
-    };
+    let remainder = settled_numbers(book, fills, 1, rounded, &mut lists, &mut after).ok_or_else(
+        unfitting,
+    )?;
     show_entries(rt, &before, &after)?;
     println!(rt; "The remainder is {remainder}.")?;
     Ok(())

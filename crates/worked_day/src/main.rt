@@ -79,20 +79,6 @@ fn enter_book(
     Ok(())
 }
 
-// The book and a paper on it: there are no blocks.
-fn paper<'a>(orders: &'a [Order], fills: &'a [u32]) -> (Book<'a>, Fills<'a>) {
-    (
-        Book {
-            orders,
-            blocks: &[],
-        },
-        Fills {
-            orders: fills,
-            blocks: &[],
-        },
-    )
-}
-
 fn judge(
     rt: &HostRuntime,
     closed: Closed,
@@ -125,11 +111,12 @@ fn run(rt: &HostRuntime) -> anyhow::Result<()> {
     enter_book(rt, &day, &mut book, &mut memory)?;
     let closed = book.close();
     println!(rt; "The book is closed.")?;
-    let (book, fills) = paper(&memory, &FIRST_PAPER);
-    let Err(closed) = judge(rt, closed, &day, book, fills)? else {
+    let book = Book::of_orders(&memory);
+    let first = Fills::of_orders(&FIRST_PAPER);
+    let Err(closed) = judge(rt, closed, &day, book, first)? else {
         return Err(anyhow!("the first paper should have been refused"));
     };
-    let (book, fills) = paper(&memory, &SECOND_PAPER);
+    let fills = Fills::of_orders(&SECOND_PAPER);
     let second = judge(rt, closed, &day, book, fills)?;
     show_cuts(rt, book, fills, ROUNDED)?;
     show_accounts(rt)?;
