@@ -22,6 +22,7 @@ pub trait Source {
         ensures { result ≡ slot self.now place };
 }
 
+// A type of its own and not an impl for slices: callers have it.
 /// A slice of postings as a source.
 #[derive(Clone, Copy)]
 pub struct Listed<'a> {
