@@ -102,12 +102,17 @@ fn a_memory_shorter_than_its_count_is_refused(rt: HostRuntime) -> Result<(), Fai
     let mut memory = [PLAIN; 2];
     book.enter_order(&day, &mut memory, PLAIN)?;
     book.enter_order(&day, &mut memory, PLAIN)?;
-    let short = Book::of_orders(&memory[0..1]);
-    let fills = Fills::of_orders(&[0, 0]);
-    let Err(fail) = book.close().judge(&day, short, fills) else {
-        return Err(Fail::new("a short memory passed"));
-    };
-    assert_eq!(rt; fail.refusal, Refusal::Short);
+    let mut closed = book.close();
+    // A memory that is too short, then fills that are too few and too many.
+    for (held, filled) in [(1, 2), (2, 1), (2, 3)] {
+        let book = Book::of_orders(&memory[0..held]);
+        let fills = Fills::of_orders(&[0; 3][0..filled]);
+        let Err(fail) = closed.judge(&day, book, fills) else {
+            return Err(Fail::new("a paper of other lengths passed"));
+        };
+        assert_eq!(rt; fail.refusal, Refusal::Short);
+        closed = fail.book;
+    }
     Ok(())
 }
 
