@@ -16,11 +16,17 @@ open_is minutes x y marked e =
     let part = λ (m : Mark). cond (is_out m || is_noted m) (worth (conditions_in minutes x) x.remainder) (pos 0) in
     e ∙ ⊎_elim (λ out. ap part (sym out)) (λ noted. ap part (sym noted)) marked
 
+-- a day has as many records as intervals
+pub count_records : (d : Day) → length (records d) ≡ d.count
+count_records d =
+    let most = d.sound.2 in
+    let all = d.sound.3 in
+    length-take-le d.count d.intervals (omega arith)
+
 pub few_records : (d : Day) → length (records d) ≤ 100
 few_records d =
     let most = d.sound.2 in
-    let all = d.sound.3 in
-    let n = length-take-le d.count d.intervals (omega arith) in
+    let n = count_records d in
     omega arith
 
 pub open_more : (minutes : ℤ) (xs : List Interval) (i : ℕ) → i < length xs → open_sum minutes (drop i xs) ≡ open_part minutes (get_or xs i fresh) +ℤ open_sum minutes (drop (i + 1) xs)

@@ -1,40 +1,41 @@
 -- Booking a remainder, and the worth of what is still open.
-use Rattle.std.specs.Prelude.{◌≡◌, ℕ, cond, ◌||◌, List, [], ◌∷◌, ℤ, pos, ◌+ℤ◌, neg_ℤ, Ok, Err, Result}
+use Rattle.std.specs.Prelude.{◌≡◌, cond, ◌||◌, List, [], ◌∷◌, ℤ, pos, ◌+ℤ◌, Ok, Err, Result}
+use Rattle.std.specs.Result.{result_and}
 use Rattle.ledger.specs.declared.account.Account.{Account}
 use Rattle.ledger.specs.declared.refusal.PostRefused.{PostRefused}
-use Rattle.ledger.specs.Model.{answer, after, total}
+use Rattle.ledger.specs.Model.{answer, posted, total}
+use Rattle.posting.specs.declared.posting.Posting.{Posting}
 use Rattle.market.specs.declared.records.Interval.{Interval}
-use Rattle.market.specs.declared.records.Mark.TheVariants.{Closed}
-use Rattle.entries.specs.Amounts.{worth}
+use Rattle.entries.specs.Amounts.{worth, booking}
 use Rattle.engine.specs.declared.day.Day.{Day}
 use Rattle.engine.specs.declared.refusal.Refusal.{Refusal}
-use Rattle.engine.specs.declared.refusal.Refusal.TheVariants.{Posting}
+use Rattle.engine.specs.declared.refusal.Refusal.TheVariants.{Posting as Unposted}
 use Rattle.engine.specs.declared.remainder.Remainder.{Remainder}
 use Rattle.engine.specs.declared.remainder.Returned.{Returned}
 use Rattle.engine.specs.Days.{records, conditions_in, conditions_of}
-use Rattle.engine.specs.Marks.{is_out, is_noted, note_answer, Marked}
+use Rattle.engine.specs.Marks.{is_out, is_noted, note_answer}
 
--- the account for balancing
-abbrev pub balancing : ℕ
-balancing = 1
+-- what booking a remainder of the interval i posts: minus its worth, to the account for balancing
+abbrev pub booked : Day → ℤ → ℤ → Posting
+booked d i steps = booking (conditions_of d i) steps
 
--- what booking posts: minus the worth of the remainder
-abbrev pub booked : Day → Remainder → ℤ
-booked d t = neg_ℤ (worth (conditions_of d t.interval) t.steps)
+-- 20, 21: the refusal of a posting, as one of the call's
+abbrev pub posting_answer : Result (Unit {0}) PostRefused → Result Unit Refusal
+posting_answer (Ok _) = Ok tt
+posting_answer (Err e) = Err (Unposted e)
 
--- 22, and then the refusal of the posting
-abbrev pub book_answer : Result Unit Refusal → Result (Unit {0}) PostRefused → Result Unit Refusal
-book_answer (Err e) posted = Err e
-book_answer (Ok _) (Err e) = Err (Posting e)
-book_answer (Ok _) (Ok _) = Ok tt
+-- 22, and then 20 or 21: what booking a remainder of so many steps answers
+abbrev pub book_answer : Day → ℤ → ℤ → List Account → Result Unit Refusal
+book_answer d i steps m = result_and (note_answer d i steps) (posting_answer (answer m (booked d i steps).account (booked d i steps).amount))
 
--- what booking leaves: the amount posted and the interval closed, or the remainder back and all as it was
-abbrev pub Booking : Day → Remainder → List Account → Result Unit Returned → Day → List Account → Type 0
-Booking d t m (Ok _) d' m' =
-    (book_answer (note_answer d t) (answer m balancing (booked d t)) ≡ Ok tt) × Marked d t.interval Closed d'
-    × (m' ≡ after m balancing (booked d t)) × (total m' ≡ total m +ℤ booked d t)
-Booking d t m (Err back) d' m' =
-    (book_answer (note_answer d t) (answer m balancing (booked d t)) ≡ Err back.refusal) × (back.remainder ≡ t) × (d' ≡ d) × (m' ≡ m)
+-- the accounts with a remainder booked
+abbrev pub book_accounts : Day → ℤ → ℤ → List Account → List Account
+book_accounts d i steps m = posted m (booked d i steps).account (booked d i steps).amount
+
+-- Booked, the sum of all balances moves by minus the worth of the remainder; refused, not at all.
+abbrev pub MovesByBooking : Day → Remainder → Result Unit Returned → List Account → List Account → Type 0
+MovesByBooking d t (Ok _) m m' = total m' ≡ total m +ℤ (booked d t.interval t.steps).amount
+MovesByBooking d t (Err _) m m' = total m' ≡ total m
 
 -- the worth of a record's remainder while it is out or noted
 abbrev pub open_part : ℤ → Interval → ℤ

@@ -6,3 +6,6 @@ pub mod Refusals
 pub mod Marks
 pub mod Settling
 pub mod Booking
+pub mod Voiding
+pub mod Steps
+pub mod Running

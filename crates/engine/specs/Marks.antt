@@ -1,5 +1,6 @@
 -- The marks of an interval, and a remainder in hand.
 use Rattle.std.specs.Prelude.{◌≡◌, Bool, true, false, ◌&&◌, [], ◌∷◌, ℤ, Ok, Err, Result}
+use Rattle.std.specs.List.{list_any}
 use Rattle.market.specs.declared.records.Interval.{Interval}
 use Rattle.market.specs.declared.records.Mark.{Mark}
 use Rattle.market.specs.declared.records.Mark.TheVariants.{Unsettled, Out, Noted, Closed}
@@ -10,8 +11,7 @@ use Rattle.engine.specs.declared.day.Day.{Day}
 use Rattle.engine.specs.declared.refusal.Refusal.{Refusal}
 use Rattle.engine.specs.declared.refusal.Refusal.TheVariants.{Market, NotOut, NotNoted}
 use Rattle.engine.specs.declared.remainder.Remainder.{Remainder}
-use Rattle.engine.specs.declared.remainder.Returned.{Returned}
-use Rattle.engine.specs.Days.{Recorded, place_of, record_of}
+use Rattle.engine.specs.Days.{Recorded, place_of, record_of, records}
 
 -- nothing of the interval is settled
 abbrev pub is_unsettled : Mark → Bool
@@ -34,6 +34,17 @@ is_noted Out = false
 is_noted Noted = true
 is_noted Closed = false
 
+-- the remainder is booked
+abbrev pub is_closed : Mark → Bool
+is_closed Unsettled = false
+is_closed Out = false
+is_closed Noted = false
+is_closed Closed = true
+
+-- some interval of the day is out
+abbrev pub any_out : Day → Bool
+any_out d = list_any (λ x. is_out x.mark) (records d)
+
 -- a record with another mark
 abbrev pub with_mark : Interval → Mark → Interval
 with_mark x m = record { price = x.price; net = x.net; rounded = x.rounded; mark = m; remainder = x.remainder }
@@ -46,25 +57,15 @@ shows_out d i steps = in_day d.count i && (is_out (record_of d i).mark && same (
 abbrev pub Marked : Day → ℤ → Mark → Day → Type 0
 Marked d i m d' = Recorded d (place_of i) (with_mark (record_of d i) m) d'
 
--- 22: what noting answers
-abbrev pub note_answer : Day → Remainder → Result Unit Refusal
-note_answer d t = tests ((shows_out d t.interval t.steps, NotOut) ∷ [])
+-- 22: what noting a remainder of so many steps answers
+abbrev pub note_answer : Day → ℤ → ℤ → Result Unit Refusal
+note_answer d i steps = tests ((shows_out d i steps, NotOut) ∷ [])
 
 -- 3, 23: what taking up answers
 abbrev pub take_answer : Day → ℤ → Result Unit Refusal
 take_answer d i = tests ((in_day d.count i, Market NoInterval) ∷ (is_noted (record_of d i).mark, NotNoted) ∷ [])
 
--- what noting leaves: the interval noted, or the remainder back and the day as it was
-abbrev pub Noting : Day → Remainder → Result Unit Returned → Day → Type 0
-Noting d t (Ok _) d' = (note_answer d t ≡ Ok tt) × Marked d t.interval Noted d'
-Noting d t (Err back) d' = (note_answer d t ≡ Err back.refusal) × (back.remainder ≡ t) × (d' ≡ d)
-
--- the remainder of an interval, in hand: its type keeps it from being let go
-pub record Handed (i steps : ℤ) (t : Remainder) : Type 0 where
-  pub interval : t.interval ≡ i
-  pub amount : t.steps ≡ steps
-
--- what taking up leaves: the noted remainder in hand and the interval out, or the day as it was
-abbrev pub Taking : Day → ℤ → Result Remainder Refusal → Day → Type 0
-Taking d i (Ok t) d' = (take_answer d i ≡ Ok tt) × Handed i (record_of d i).remainder t × Marked d i Out d'
-Taking d i (Err e) d' = (take_answer d i ≡ Err e) × (d' ≡ d)
+-- a call that hands a remainder of the interval i over, where it does not refuse
+abbrev pub Hands : ℤ → Result Remainder Refusal → Type 0
+Hands i (Ok t) = t.interval ≡ i
+Hands i (Err e) = Unit {0}

@@ -1,27 +1,25 @@
--- Settling an interval on a passed book: what it answers, and what it leaves.
+-- Settling an interval on a passed book: what it answers.
 use Rattle.std.specs.Prelude.{◌≡◌, ℕ, List, [], ◌∷◌, take, ℤ, ◌+ℤ◌, Ok, Err, Result, unsigned_abs}
 use Rattle.ledger.specs.declared.account.Account.{Account}
 use Rattle.ledger.specs.Model.{total}
-use Rattle.posting.specs.Postings.{posted_all}
 use Rattle.market.specs.declared.records.Order.{Order}
 use Rattle.market.specs.declared.records.Block.{Block}
-use Rattle.market.specs.declared.records.Mark.TheVariants.{Out}
 use Rattle.market.specs.declared.refusal.Refusal.TheVariants.{NoInterval, Short}
 use Rattle.market.specs.Bounds.{in_day}
 use Rattle.entries.specs.declared.refused.SettleRefused.{SettleRefused}
 use Rattle.entries.specs.declared.refused.SettleRefused.TheVariants.{Market as Unlawful, Posting as Unposted}
 use Rattle.entries.specs.Amounts.{worth}
-use Rattle.entries.specs.Settles.{Settlement, Lengths, settle_list, settle_steps, settle_sheet, settle_answer as slices_answer}
+use Rattle.entries.specs.Settles.{Settlement, Lengths, settle_answer as slices_answer}
 use Rattle.engine.specs.declared.day.Day.{Day}
 use Rattle.engine.specs.declared.book.Passed.{Passed}
 use Rattle.engine.specs.declared.refusal.Refusal.{Refusal}
 use Rattle.engine.specs.declared.refusal.Refusal.TheVariants.{Market, Posting as UnpostedCall, NotUnsettled}
 use Rattle.engine.specs.declared.remainder.Remainder.{Remainder}
 use Rattle.engine.specs.Books.{holds}
-use Rattle.engine.specs.Days.{Recorded, place_of, record_of, with_state, conditions_of}
+use Rattle.engine.specs.Days.{record_of, conditions_of}
 use Rattle.market.specs.First.{tests}
 use Rattle.std.specs.Result.{result_and}
-use Rattle.engine.specs.Marks.{is_unsettled, Handed}
+use Rattle.engine.specs.Marks.{is_unsettled}
 
 -- a refusal of settling over slices, as one of the call's
 abbrev pub lifted_by : SettleRefused → Refusal
@@ -29,8 +27,8 @@ lifted_by (Unlawful e) = Market e
 lifted_by (Unposted e) = UnpostedCall e
 
 -- an answer of settling over slices, as one of the call's
-abbrev pub lifted : Result ℤ SettleRefused → Result ℤ Refusal
-lifted (Ok steps) = Ok steps
+abbrev pub lifted : {X : Type 0} → Result X SettleRefused → Result X Refusal
+lifted (Ok x) = Ok x
 lifted (Err e) = Err (lifted_by e)
 
 -- 3, 19, 11: what is looked at before the book
@@ -53,15 +51,6 @@ module _ (p : Passed) (d : Day) (os : List Order) (fs : List ℕ) (bs : List Blo
   -- what settling answers: the foremost refusal, or the remainder
   abbrev pub settle_answer : Lengths → List Account → Result ℤ Refusal
   settle_answer l m = result_and (ready p d os bs i) (lifted (slices_answer asked l m))
-
-  -- what settling leaves: the remainder in hand, the interval out with it, its numbers in the sheet and its postings in the
-  -- accounts; or all as it was
-  abbrev pub Settling : Lengths → List Account → List ℕ → Result Remainder Refusal → Day → List ℕ → List Account → Type 0
-  Settling l m s (Ok t) d' s' m' =
-      (settle_answer l m ≡ Ok (settle_steps asked)) × Handed i (settle_steps asked) t
-      × Recorded d (place_of i) (with_state (record_of d i) Out (settle_steps asked)) d'
-      × (s' ≡ settle_sheet asked s) × (m' ≡ posted_all m (settle_list asked))
-  Settling l m s (Err e) d' s' m' = (settle_answer l m ≡ Err e) × (d' ≡ d) × (s' ≡ s) × (m' ≡ m)
 
 -- the sum of all balances moves by the worth of the remainder of the interval i, or not at all
 abbrev pub Moves : Day → ℤ → Result Remainder Refusal → List Account → List Account → Type 0

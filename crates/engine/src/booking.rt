@@ -1,7 +1,10 @@
 // Booking a remainder, and the worth of what is still open.
-ghost use Rattle.std.specs.Prelude.{◌≡◌, ◌≤◌, true, unsigned_abs};
+ghost use Rattle.std.specs.Prelude.{◌≡◌, ℕ, ◌≤◌, true, List, unsigned_abs};
 ghost use Rattle.market.specs.Bounds.{in_day};
-ghost use Rattle.engine.specs.Booking.{Booking, booked, open_part, open_worth};
+ghost use Rattle.entries.specs.Settles.{WorkLengths};
+ghost use Rattle.engine.specs.declared.call.Call.TheVariants.{Book};
+ghost use Rattle.engine.specs.Booking.{MovesByBooking, booked, open_part, open_worth};
+ghost use Rattle.engine.specs.Steps.{Paper, state_of, Takes, spending, GivesBack};
 ghost use Rattle.engine.specs.Sound.{terms_lawful};
 
 use super::day::Day;
@@ -15,7 +18,7 @@ impl Day {
     // remainder is of no day.
     fn booked(&self, remainder: &Remainder) -> i64
         requires { in_day self.now.count remainder.now.interval ≡ true }
-        ensures { result ≡ booked self.now remainder.now }
+        ensures { result ≡ (booked self.now remainder.now.interval remainder.now.steps).amount }
     {
         let terms = self.terms_of(self.record(remainder.interval));
         terms.owed(remainder.steps)
@@ -24,7 +27,9 @@ impl Day {
     /// Posts minus the worth of a remainder to account 1 and closes its interval: 22 where the day does not show the interval out
     /// with it, then 20 or 21 of the posting; then the remainder comes back.
     pub fn book<L: Ledger>(&mut self, ledger: &mut L, remainder: Remainder) -> Result<(), Returned>
-        ensures books { Booking self.old remainder (L.Accounts.model ledger.old) result self.new (L.Accounts.model ledger.new) }
+        ensures step { (p : Paper) (w : WorkLengths) (s : List ℕ) → Takes p w (state_of self.old s (L.Accounts.model ledger.old)) (Book remainder.interval remainder.steps) (spending remainder.steps result) (state_of self.new s (L.Accounts.model ledger.new)) }
+        ensures back { GivesBack remainder result }
+        ensures moves { MovesByBooking self.old remainder result (L.Accounts.model ledger.old) (L.Accounts.model ledger.new) }
         ensures keeps { L.Ledger.kept ledger.old ledger.new }
     {
         if !self.shows_out(&remainder) {

@@ -20,6 +20,8 @@ pub enum Refusal {
     NotOut,
     #[error("{}: the interval is not noted", self.number())]
     NotNoted,
+    #[error("{}: the interval is not closed", self.number())]
+    NotClosed,
 }
 
 impl Refusal {
@@ -33,6 +35,7 @@ impl Refusal {
             Refusal::NotUnsettled => 19,
             Refusal::NotOut => 22,
             Refusal::NotNoted => 23,
+            Refusal::NotClosed => 24,
         }
     }
 
@@ -43,7 +46,7 @@ impl Refusal {
         match self {
             Refusal::Market(refusal) => refusal.place(),
             Refusal::Posting(refused) => refused.place(),
-            Refusal::NotUnsettled | Refusal::NotOut | Refusal::NotNoted => 0,
+            Refusal::NotUnsettled | Refusal::NotOut | Refusal::NotNoted | Refusal::NotClosed => 0,
         }
     }
 }

@@ -1,8 +1,11 @@
 // Settling an interval on a passed book.
 ghost use Rattle.std.specs.Prelude.{◌≡◌, length, take, true, Ok, Err, IfOk, OnOk, IfErr};
 ghost use Rattle.market.specs.Bounds.{in_day};
-ghost use Rattle.entries.specs.Settles.{lengths, SameSlices};
-ghost use Rattle.engine.specs.Settling.{ready, Settling, Moves};
+ghost use Rattle.entries.specs.Settles.{work_lengths, SameSlices};
+ghost use Rattle.engine.specs.declared.call.Call.TheVariants.{Settle};
+ghost use Rattle.engine.specs.Marks.{Hands};
+ghost use Rattle.engine.specs.Settling.{ready, Moves};
+ghost use Rattle.engine.specs.Steps.{paper_of, state_of, Takes, handing};
 
 use super::book::Passed;
 use super::day::Day;
@@ -47,7 +50,8 @@ impl Passed {
         ledger: &mut L,
         interval: i32,
     ) -> Result<Remainder, Refusal>
-        ensures settles { Settling self.now day.old memory.entry.orders.now fills.entry.orders.now memory.entry.blocks.now fills.entry.blocks.now interval (lengths sheet.old work.old) (L.Accounts.model ledger.old) sheet.old result day.new sheet.new (L.Accounts.model ledger.new) }
+        ensures step { Takes (paper_of self.now memory.entry.orders.now fills.entry.orders.now memory.entry.blocks.now fills.entry.blocks.now) (work_lengths work.old) (state_of day.old sheet.old (L.Accounts.model ledger.old)) (Settle interval) (handing result) (state_of day.new sheet.new (L.Accounts.model ledger.new)) }
+        ensures hands { Hands interval result }
         ensures moves { Moves day.old interval result (L.Accounts.model ledger.old) (L.Accounts.model ledger.new) }
         ensures keeps { L.Ledger.kept ledger.old ledger.new }
         ensures slices { SameSlices work.old work.new }

@@ -6,3 +6,6 @@ pub mod Reading
 pub mod Checking
 pub mod Readiness
 pub mod Moving
+pub mod Refusing
+pub mod Returning
+pub mod Voids

@@ -9,7 +9,7 @@ use Rattle.posting.specs.Postings.{answers, left, posted_all}
 use Rattle.posting.proofs.Order.{all_taken, total_all}
 use Rattle.entries.specs.declared.refused.SettleRefused.{SettleRefused}
 use Rattle.entries.specs.Amounts.{Conditions, worth}
-use Rattle.entries.specs.Settles.{Settlement, settle_numbers, settle_list, settle_steps, settle_sheet, with_steps, carried_answer, carried_sheet, Lengths, Ready, Moved}
+use Rattle.entries.specs.Settles.{Settlement, settle_numbers, settle_list, settle_steps, settle_sheet, if_posted, carried_answer, carried_sheet, Lengths, Ready, Moved}
 use Rattle.entries.proofs.Adding.{amounts_are}
 
 -- postings that are all taken move the sum by the worth of the remainder
@@ -29,7 +29,7 @@ sum_moved x e f m h =
 
 -- what the answer says of accounts and sheet
 moved_by : (a : Result (Unit {0}) PostRefused) (t : Conditions) (z : ℤ) (r : Result ℤ SettleRefused) (m m' new : List Account) (s s' w : List ℕ)
-    → r ≡ with_steps a z → m' ≡ if_taken a new m → s' ≡ if_taken a w s → (a ≡ Ok tt → total new ≡ total m +ℤ worth t z) → Moved r t m m' s s'
+    → r ≡ if_posted a z → m' ≡ if_taken a new m → s' ≡ if_taken a w s → (a ≡ Ok tt → total new ≡ total m +ℤ worth t z) → Moved r t m m' s s'
 moved_by (Err e) t z r m m' new s s' w er em es h = subst (λ x. Moved x t m m' s s') (sym er) (em, es)
 moved_by (Ok v) t z r m m' new s s' w er em es h = subst (λ x. Moved x t m m' s s') (sym er) (ap total em ∙ h refl)
 

@@ -1,5 +1,5 @@
 -- Products of bounded integers: no amount overflows.
-use Rattle.std.proofs.Common.{◌≡◌, ℕ, ◌≤◌, true, ℤ, pos, ◌*ℤ◌, unsigned_abs, mul-le-mul, arith, w32, w64, SFits, to_z, of_z}
+use Rattle.std.proofs.Common.{◌≡◌, ℕ, ◌≤◌, true, ℤ, pos, ◌*ℤ◌, neg_ℤ, unsigned_abs, mul-le-mul, arith, w32, w64, SFits, to_z, of_z}
 use borrow.Author.Differences.{ints, abs_is}
 use Rattle.std.proofs.lemmas.Int.{to_z-of_z, unsigned_abs-mul, fits_signed_mul}
 use Rattle.std.proofs.lemmas.Bool.Decides.{nat_tests}
@@ -23,6 +23,10 @@ module _ (t : Terms) (z : ℤ) (w : Within 4294967296 z) where
   -- the amount
   pub worth_small : unsigned_abs (worth (conditions t) z) ≤ 6871947673600000
   worth_small = rw unsigned_abs-mul (mul-le-mul priced_small (at_most_four t.quarters t.lawful.2))
+
+  -- and minus it
+  pub owed_small : unsigned_abs (neg_ℤ (worth (conditions t) z)) ≤ 6871947673600000
+  owed_small = let s = worth_small in omega (arith, ints, abs_is (worth (conditions t) z))
 
   pub worth_fits : SFits w64 (worth (conditions t) z)
   worth_fits = fits_signed_mul w64 (t.price *ℤ z) (pos t.quarters) 1717986918400000 4 priced_small (at_most_four t.quarters t.lawful.2) (omega arith)

@@ -3,7 +3,7 @@ use Rattle.std.proofs.Common.{◌≡◌, ℕ, ◌+◌, ◌<◌, ◌≤◌, true,
 use borrow.Author.Differences.{ints, abs_is}
 use Rattle.std.proofs.lemmas.Int.{fits_signed_from_abs}
 use Rattle.std.proofs.lemmas.List.{get_or_past}
-use Rattle.std.proofs.lemmas.Bool.{cases_lt}
+use Rattle.std.proofs.lemmas.Bool.{and_parts, cases_lt}
 use Rattle.std.proofs.lemmas.Bool.Decides.{nat_tests}
 use Rattle.market.specs.declared.refusal.Refusal.TheVariants.{NoInterval, Short}
 use Rattle.market.specs.Blank.{no_order, no_block}
@@ -19,16 +19,16 @@ use Rattle.cuts.proofs.Remainders.{settles}
 use Rattle.entries.specs.Lawful.{rounded_ok}
 use Rattle.entries.specs.Sheet.{Laid}
 use Rattle.market.specs.Bounds.{in_day}
-use Rattle.entries.specs.Settles.{room_ok, settle_checks, Settlement, Lengths, WorkLengths, SizedFor, Ready, settle_steps}
+use Rattle.entries.specs.Settles.{sheet_ok, room_ok, settle_checks, Settlement, Lengths, WorkLengths, SizedFor, Ready, settle_steps}
 
 -- what holds of the fill of each entry holds of any place of the fills
 small_at : {X : Type 0} (d : X) (xs : List X) (fs : List ℕ) → length xs ≡ length fs → ((k : ℕ) → k < length xs → get_or fs k 0 ≤ 1000000) → (k : ℕ) → get_or fs k 0 ≤ 1000000
 small_at d xs fs e h k =
     ⊎_elim (λ lt. h k lt) (λ past. let z = get_or_past fs k 0 (omega arith) in omega arith) (cases_lt k (length xs))
 
--- what the tests of the interval and of the room say
-laid_from : (o b n i : ℕ) (l : Lengths) → in_day n (pos i) ≡ true → room_ok o b n l ≡ true → Laid o b n i l.sheet
-laid_from o b n i l e f = record { from = grind (arith, nat_tests); to = grind (arith, nat_tests); room = grind (arith, nat_tests) }
+-- what the tests of the interval and of the sheet say
+pub laid_from : (o b n i size : ℕ) → in_day n (pos i) ≡ true → sheet_ok o b n size ≡ true → Laid o b n i size
+laid_from o b n i size e f = record { from = grind (arith, nat_tests); to = grind (arith, nat_tests); room = grind (arith, nat_tests) }
 
 record Roomy (entries : ℕ) (w : WorkLengths) : Type 0 where
   numbers : entries ≤ w.numbers
@@ -68,7 +68,7 @@ module _ (x : Settlement) (l : Lengths) where
           order_small = small_at no_order os fs z.1.orders (λ k lt. (each_at _ os fs k no_order orders-each lt).1);
           block_small = small_at no_block bs gs z.1.blocks (λ k lt. (each_at _ bs gs k no_block blocks-each lt).0.1);
         };
-        laid = laid_from (length os) (length bs) n x.interval l b.0 b.1.0;
+        laid = laid_from (length os) (length bs) n x.interval l.sheet b.0 (and_parts (sheet_ok (length os) (length bs) n l.sheet) _ b.1.0).0;
       }
 
 -- ---- the remainder is small

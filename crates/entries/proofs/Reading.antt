@@ -77,7 +77,7 @@ module _ (place : ℕ → ℕ) (passes : ℕ → Bool) (v : ℕ → ℕ) (s : Li
       (cases_eq k m))
       refl
 
-  read_elsewhere : (m p : ℕ) → ((k : ℕ) → k < m → passes k ≡ true → place k ≡ p → ⊥) → get_or (written place passes v m s) p 0 ≡ get_or s p 0
+  pub read_elsewhere : (m p : ℕ) → ((k : ℕ) → k < m → passes k ≡ true → place k ≡ p → ⊥) → get_or (written place passes v m s) p 0 ≡ get_or s p 0
   read_elsewhere zero p h = refl
   read_elsewhere (suc m) p h =
       let w = written place passes v m s in

@@ -24,7 +24,7 @@ pub upto_split : (f : ℕ → ℤ) (m n : ℕ) → upto f (m + n) ≡ upto f m +
 upto_split f m zero = rw add-zero (omega (arith, ints))
 upto_split f m (suc n) = let e = upto_split f m n in rw add-suc (omega (arith, ints))
 
-amounts-append : (ps qs : List Posting) → amounts (ps ++ qs) ≡ amounts ps +ℤ amounts qs
+pub amounts-append : (ps qs : List Posting) → amounts (ps ++ qs) ≡ amounts ps +ℤ amounts qs
 amounts-append [] qs = omega (arith, ints)
 amounts-append (p ∷ ps) qs = let e = amounts-append ps qs in omega (arith, ints)
 

@@ -1,5 +1,6 @@
 -- The amounts of an interval, and its postings.
-use Rattle.std.specs.Prelude.{ℕ, suc, ◌+◌, ◌-◌, cond, List, length, ℤ, pos, ◌*ℤ◌, neg_ℤ, Some, None, Option, ◌==◌, nat_lt, slice_index, slice_index_or, unsigned_abs}
+use Rattle.std.specs.Prelude.{ℕ, suc, ◌+◌, ◌-◌, cond, List, [], ◌∷◌, ◌++◌, map, reverse, length, ℤ, pos, ◌*ℤ◌, neg_ℤ, Some, None, Option, ◌==◌, nat_lt, slice_index, slice_index_or, unsigned_abs}
+use Rattle.std.specs.Option.{option_map}
 use Rattle.market.specs.declared.records.Order.{Order}
 use Rattle.market.specs.declared.records.Block.{Block}
 use Rattle.market.specs.Blank.{no_order, no_block}
@@ -47,3 +48,19 @@ settle_slot os bs ns t k = cond (nat_lt k (length os + length bs)) (posting_of t
 -- the postings of an interval whose entries are settled at the numbers ns: by entry, last the exchange
 unfoldable pub settle_postings : List Order → List Block → List ℕ → Conditions → List Posting
 settle_postings os bs ns t = listed (settle_slot os bs ns t) (suc (length os + length bs))
+
+-- minus the worth of a remainder, to account 1
+abbrev pub booking : Conditions → ℤ → Posting
+booking t steps = record { account = 1; amount = neg_ℤ (worth t steps) }
+
+-- the posting that takes another back
+abbrev pub opposite : Posting → Posting
+opposite p = record { account = p.account; amount = neg_ℤ p.amount }
+
+-- at a place, from 0: the opposite of a posting p, then of what stands at n places, last first
+abbrev pub void_slot : (ℕ → Option Posting) → ℕ → Posting → ℕ → Option Posting
+void_slot f n p k = cond (k == 0) (Some (opposite p)) (option_map opposite (f (n - k)))
+
+-- what voiding posts: the opposite of settling by the numbers ns and of booking the remainder, in opposite order
+unfoldable pub void_postings : List Order → List Block → List ℕ → Conditions → ℤ → List Posting
+void_postings os bs ns t steps = reverse (map opposite (settle_postings os bs ns t ++ booking t steps ∷ []))

@@ -1,11 +1,11 @@
--- What settling comes to, in words.
-use Rattle.std.specs.Prelude.{◌≡◌, ℕ, ◌+◌, ◌<◌, ◌≤◌, true, List, ◌++◌, length, ◌≢◌, slice_index}
+-- What settling and voiding come to, in words.
+use Rattle.std.specs.Prelude.{◌≡◌, ℕ, ◌+◌, ◌<◌, ◌≤◌, true, List, ◌++◌, length, ℤ, ◌-ℤ◌, ◌≢◌, slice_index}
 use Rattle.market.specs.declared.records.Order.{Order}
 use Rattle.market.specs.declared.records.Block.{Block}
-use Rattle.cuts.specs.Settled.{balance}
+use Rattle.cuts.specs.Settled.{balance, settled_numbers}
 use Rattle.posting.specs.Postings.{amounts}
-use Rattle.entries.specs.Amounts.{Conditions, worth, settle_postings}
-use Rattle.entries.specs.Sheet.{of_interval, place_of, sheet_with, Laid}
+use Rattle.entries.specs.Amounts.{Conditions, worth, settle_postings, void_postings}
+use Rattle.entries.specs.Sheet.{of_interval, place_of, sheet_with, sheet_without, sheet_numbers, Laid}
 
 -- the amounts of an interval's postings add up to the worth of sells less buys less R
 abbrev pub SettlingAddsUp : Type 0
@@ -31,3 +31,28 @@ abbrev pub ReadsBack : Type 0
 ReadsBack =
     (os : List Order) (bs : List Block) (n i : ℕ) (ns s : List ℕ) → Laid (length os) (length bs) n i (length s)
     → Reads os bs n i ns s (sheet_with os bs n i ns s)
+
+-- the amounts of voiding add up to the worth of the remainder less that of sells less buys less R
+abbrev pub VoidingAddsUp : Type 0
+VoidingAddsUp =
+    (os : List Order) (bs : List Block) (ns ms : List ℕ) (t : Conditions) (steps : ℤ) → length ns ≡ length os → length ms ≡ length bs
+    → amounts (void_postings os bs (ns ++ ms) t steps) ≡ worth t steps -ℤ worth t (balance os bs ns ms t.rounded)
+
+-- where the settled numbers of an interval were written, its numbers in the sheet are those
+abbrev pub SettledReadsBack : Type 0
+SettledReadsBack =
+    (os : List Order) (fs : List ℕ) (bs : List Block) (gs : List ℕ) (n i : ℕ) (r : ℤ) (s : List ℕ)
+    → length fs ≡ length os → length gs ≡ length bs → Laid (length os) (length bs) n i (length s)
+    → sheet_numbers os bs n i (sheet_with os bs n i (settled_numbers os fs bs gs i r) s) ≡ settled_numbers os fs bs gs i r
+
+-- and the numbers of every other interval are as they were, whatever was written
+abbrev pub OthersAsTheyWere : Type 0
+OthersAsTheyWere =
+    (os : List Order) (bs : List Block) (n i j : ℕ) (ns s : List ℕ) → Laid (length os) (length bs) n i (length s) → 1 ≤ j → j ≤ n → (i ≢ j)
+    → sheet_numbers os bs n j (sheet_with os bs n i ns s) ≡ sheet_numbers os bs n j s
+
+-- and so they are where those of one interval are zeroed
+abbrev pub OthersWhenZeroed : Type 0
+OthersWhenZeroed =
+    (os : List Order) (bs : List Block) (n i j : ℕ) (s : List ℕ) → Laid (length os) (length bs) n i (length s) → 1 ≤ j → j ≤ n → (i ≢ j)
+    → sheet_numbers os bs n j (sheet_without os bs n i s) ≡ sheet_numbers os bs n j s

@@ -40,7 +40,7 @@ settlement b f n i t = record { orders = b.orders.now; order_fills = f.orders.no
 
 -- the same, of a task
 abbrev pub settlement_of : Task → Settlement
-settlement_of t = settlement t.book t.fills t.intervals t.interval t.terms
+settlement_of t = settlement t.delivery.book t.fills t.delivery.intervals t.delivery.interval t.delivery.terms
 
 -- the lengths of the working slices
 pub record WorkLengths : Type 0 where
@@ -73,9 +73,13 @@ pub record SameSlices (w w' : Work) : Type 0 where
 abbrev pub work_ok : ℕ → WorkLengths → Bool
 work_ok entries w = nat_le entries w.numbers && (nat_le entries w.orders && nat_le entries w.blocks)
 
--- a sheet and working slices of these lengths, for o orders and b blocks in a day of n intervals
+-- a sheet of that size, for o orders and b blocks in a day of n intervals
+abbrev pub sheet_ok : ℕ → ℕ → ℕ → ℕ → Bool
+sheet_ok o b n size = sizes_ok n o b && nat_le (o + b * n) size
+
+-- a sheet and working slices of these lengths, for as many
 abbrev pub room_ok : ℕ → ℕ → ℕ → Lengths → Bool
-room_ok o b n l = sizes_ok n o b && (nat_le (o + b * n) l.sheet && work_ok (o + b) l.work)
+room_ok o b n l = sheet_ok o b n l.sheet && work_ok (o + b) l.work
 
 -- 3, 11, 12, 13: what is looked at before an interval is settled
 unfoldable pub settle_checks : Settlement → Lengths → Result Unit Refusal
@@ -118,19 +122,19 @@ settle_steps x = remainder_of x.orders x.order_fills x.blocks x.block_fills x.in
 unfoldable pub settle_sheet : Settlement → List ℕ → List ℕ
 settle_sheet x s = sheet_with x.orders x.blocks x.intervals x.interval (settle_numbers x) s
 
--- the remainder, where all postings are taken
-abbrev pub with_steps : Result (Unit {0}) PostRefused → ℤ → Result ℤ SettleRefused
-with_steps (Ok _) steps = Ok steps
-with_steps (Err e) steps = Err (Unposted e)
+-- what is answered where all postings are taken
+abbrev pub if_posted : {X : Type 0} → Result (Unit {0}) PostRefused → X → Result X SettleRefused
+if_posted (Ok _) x = Ok x
+if_posted (Err e) x = Err (Unposted e)
 
 -- an answer that is given where the checks pass
-abbrev pub checked : Result Unit Refusal → Result ℤ SettleRefused → Result ℤ SettleRefused
+abbrev pub checked : {X : Type 0} → Result Unit Refusal → Result X SettleRefused → Result X SettleRefused
 checked (Ok _) answer = answer
 checked (Err e) answer = Err (Market e)
 
 -- what is answered to postings of a settlement whose checks have passed: the remainder, where all are taken
 abbrev pub carried_answer : Settlement → List Account → Result ℤ SettleRefused
-carried_answer x m = with_steps (answers m (settle_list x)) (settle_steps x)
+carried_answer x m = if_posted (answers m (settle_list x)) (settle_steps x)
 
 -- the sheet that such a settlement leaves: written, where all postings are taken
 abbrev pub carried_sheet : Settlement → List Account → List ℕ → List ℕ

@@ -1,11 +1,11 @@
 // The amounts of an interval, in grains.
-ghost use Rattle.std.specs.Prelude.{◌≡◌, ◌≤◌, neg_ℤ, unsigned_abs};
+ghost use Rattle.std.specs.Prelude.{◌≡◌, ◌≤◌, IfSome, neg_ℤ, unsigned_abs};
 ghost use Rattle.market.specs.Signed.{Within};
-ghost use Rattle.entries.specs.Amounts.{conditions, worth, posting_of, exchange};
+ghost use Rattle.entries.specs.Amounts.{conditions, worth, posting_of, exchange, booking, opposite};
 
 use super::book::Party;
 use super::terms::Terms;
-use ledger::EXCHANGE;
+use ledger::{BALANCING, EXCHANGE};
 use posting::Posting;
 
 const NO_STEPS: u32 = 0;
@@ -37,7 +37,8 @@ impl Terms {
 
 /// The posting of an entry: none for 0 steps.
 pub(crate) fn posting_of(terms: Terms, party: Party, steps: u32) -> Option<Posting>
-    ensures { result ≡ posting_of (conditions terms) party steps }
+    ensures is { result ≡ posting_of (conditions terms) party steps }
+    ensures small { IfSome result (λ p. unsigned_abs p.amount ≤ 6871947673600000) }
 {
     (steps != NO_STEPS).then(|| Posting {
         account: party.account,
@@ -47,10 +48,32 @@ pub(crate) fn posting_of(terms: Terms, party: Party, steps: u32) -> Option<Posti
 
 /// Minus R's amount, for the exchange.
 pub(crate) fn exchange(terms: Terms) -> Posting
-    ensures { result ≡ exchange (conditions terms) }
+    ensures is { result ≡ exchange (conditions terms) }
+    ensures small { unsigned_abs result.amount ≤ 6871947673600000 }
 {
     Posting {
         account: EXCHANGE,
         amount: terms.owed(terms.rounded),
+    }
+}
+
+/// The worth of a remainder, for the balancing account: what takes its booking back.
+pub(crate) fn unbooking(terms: Terms, remainder: i32) -> Posting
+    ensures { result ≡ opposite (booking (conditions terms) remainder) }
+{
+    Posting {
+        account: BALANCING,
+        amount: terms.worth(remainder),
+    }
+}
+
+/// The posting that takes another back.
+pub(crate) fn taken_back(posting: Posting) -> Posting
+    requires { unsigned_abs posting.amount ≤ 6871947673600000 }
+    ensures { result ≡ opposite posting }
+{
+    Posting {
+        amount: -posting.amount,
+        ..posting
     }
 }

@@ -2,6 +2,7 @@
 ghost use Rattle.std.specs.Prelude.{◌≡◌, ◌+◌, ◌<◌, length};
 ghost use Rattle.entries.specs.Amounts.{party, party_at};
 ghost use Rattle.entries.specs.Sheet.{of_interval};
+ghost use Rattle.entries.specs.Voids.{quantity_at};
 
 use market::entry::Entry;
 use market::records::{Book, Side};
@@ -33,6 +34,17 @@ pub(crate) fn is_of(book: Book<'_>, place: usize, interval: u32) -> bool
     match book.orders.get(place) {
         Some(order) => order.covers(interval),
         None => book.blocks[place - book.orders.len()].covers(interval),
+    }
+}
+
+/// The quantity in steps of the entry at a place, from 0.
+pub(crate) fn quantity_at(book: Book<'_>, place: usize) -> i32
+    requires { place < length book.orders.now + length book.blocks.now }
+    ensures { result ≡ quantity_at book.entry.orders.now book.entry.blocks.now place }
+{
+    match book.orders.get(place) {
+        Some(order) => order.quantity(),
+        None => book.blocks[place - book.orders.len()].quantity(),
     }
 }
 

@@ -6,6 +6,7 @@ ghost use Rattle.entries.specs.Sheet.{Laid};
 ghost use Rattle.entries.specs.Settles.{settlement, settlement_of, work_lengths, lengths, Ready, SizedFor, settle_list, settle_numbers, settle_steps};
 ghost use Rattle.entries.specs.Settles.{carried_answer, carried_sheet, settle_answer, settled_accounts, settled_sheet, Moved, SameSlices};
 
+use super::delivery::Delivery;
 use super::postings::Settling;
 use super::refused::SettleRefused;
 use super::task::Task;
@@ -22,13 +23,13 @@ impl Task<'_> {
         requires { SizedFor (settlement_of self) (work_lengths work.old) }
         ensures steps { result ≡ settle_steps (settlement_of self.entry) }
         ensures slices { SameSlices work.old work.new }
-        ensures numbers { take (length self.entry.book.orders.now + length self.entry.book.blocks.now) work.new.numbers.now ≡ settle_numbers (settlement_of self.entry) }
+        ensures numbers { take (length self.entry.delivery.book.orders.now + length self.entry.delivery.book.blocks.now) work.new.numbers.now ≡ settle_numbers (settlement_of self.entry) }
     {
         let steps = settled_numbers(
-            self.book,
+            self.delivery.book,
             self.fills,
-            self.interval,
-            self.terms.rounded,
+            self.delivery.interval,
+            self.delivery.terms.rounded,
             &mut work.lists,
             work.numbers,
         )
@@ -44,9 +45,9 @@ impl Task<'_> {
         sheet: &mut [u32],
         ledger: &mut L,
     ) -> Result<(), PostRefused>
-        requires few { length self.book.orders.now + length self.book.blocks.now ≤ 1088 }
-        requires laid { Laid (length self.book.orders.now) (length self.book.blocks.now) self.intervals self.interval (length sheet.old) }
-        requires each { length numbers.now ≡ length self.book.orders.now + length self.book.blocks.now }
+        requires few { length self.delivery.book.orders.now + length self.delivery.book.blocks.now ≤ 1088 }
+        requires laid { Laid (length self.delivery.book.orders.now) (length self.delivery.book.blocks.now) self.delivery.intervals self.delivery.interval (length sheet.old) }
+        requires each { length numbers.now ≡ length self.delivery.book.orders.now + length self.delivery.book.blocks.now }
         requires settled { numbers.now ≡ settle_numbers (settlement_of self) }
         ensures answers { result ≡ answers (L.Accounts.model ledger.old) (settle_list (settlement_of self.entry)) }
         ensures posts { L.Accounts.model ledger.new ≡ left (L.Accounts.model ledger.old) (settle_list (settlement_of self.entry)) }
@@ -54,11 +55,11 @@ impl Task<'_> {
         ensures keeps { L.Ledger.kept ledger.old ledger.new }
     {
         let postings = Settling {
-            task: self,
+            delivery: self.delivery,
             numbers,
         };
         post_all(ledger, &postings)?;
-        self.write(numbers, sheet);
+        self.delivery.write(numbers, sheet);
         Ok(())
     }
 
@@ -78,7 +79,7 @@ impl Task<'_> {
         ensures keeps { L.Ledger.kept ledger.old ledger.new }
     {
         let steps = self.settle_numbers(work);
-        let entries = self.book.orders.len() + self.book.blocks.len();
+        let entries = self.delivery.entries();
         self.carry_out(&work.numbers[..entries], sheet, ledger)?;
         Ok(steps)
     }
@@ -109,13 +110,13 @@ pub fn settle_interval<L: Ledger>(
     ensures slices { SameSlices work.old work.new }
     ensures moves { Moved result (conditions terms) (L.Accounts.model ledger.old) (L.Accounts.model ledger.new) sheet.old sheet.new }
 {
-    let task = Task {
+    let delivery = Delivery {
         book,
-        fills,
         intervals,
         interval,
         terms,
     };
+    let task = Task { delivery, fills };
     task.check(sheet, work)?;
     task.settle(sheet, work, ledger)
 }

@@ -1,13 +1,10 @@
 // What is settled.
-use super::terms::Terms;
-use market::records::{Book, Fills};
+use super::delivery::Delivery;
+use market::records::Fills;
 
-/// What is settled: an interval of a day of so many, by its terms, of a book with its fills.
+/// What is settled: an interval of a book, with the fills of the book.
 #[derive(Clone, Copy)]
 pub(crate) struct Task<'a> {
-    pub book: Book<'a>,
+    pub delivery: Delivery<'a>,
     pub fills: Fills<'a>,
-    pub intervals: usize,
-    pub interval: u32,
-    pub terms: Terms,
 }

@@ -9,6 +9,7 @@ use entries::Work;
 use ledger::Ledger;
 use market::records::{Book, Fills, Market, Order, Side};
 use market::refusal::Refusal as MarketRefusal;
+use std::process::Abort;
 use std::test::Fail;
 
 pub(crate) const FILLS: [u32; 3] = [10_000, 2_350, 12_000];
@@ -102,6 +103,26 @@ pub(crate) fn settle_and_note<L: Ledger>(
     }
 }
 
+/// Settles an interval, and books its remainder over accounts that take it.
+pub(crate) fn settle_and_book<L: Ledger>(
+    rt: &impl Abort,
+    passed: &Passed,
+    day: &mut Day,
+    book: Book<'_>,
+    fills: Fills<'_>,
+    sheet: &mut [u32],
+    work: &mut Work<'_>,
+    ledger: &mut L,
+    interval: i32,
+) -> Result<i32, Refusal> {
+    let remainder = passed.settle(day, book, fills, sheet, work, ledger, interval)?;
+    let steps = remainder.steps();
+    match day.book(ledger, remainder) {
+        Ok(()) => Ok(steps),
+        Err(_) => panic!(rt; "the accounts should take the remainder"),
+    }
+}
+
 // The working slices of three entries are built where they are lent, here and below: arrays and what is lent of them cannot be handed out
 // together, and the libraries have no heap.
 /// Settles the interval of a day with three entries, and notes its remainder.
@@ -122,6 +143,53 @@ pub(crate) fn settle_three<L: Ledger>(
         lists,
     };
     settle_and_note(passed, day, book, fills, sheet, &mut work, ledger, 1)
+}
+
+/// Settles the interval of a day with three entries, and books its remainder.
+pub(crate) fn settle_and_book_three<L: Ledger>(
+    rt: &impl Abort,
+    passed: &Passed,
+    day: &mut Day,
+    book: Book<'_>,
+    fills: Fills<'_>,
+    sheet: &mut [u32],
+    ledger: &mut L,
+) -> Result<i32, Refusal> {
+    let lists = Lists {
+        orders: &mut [OrderCandidate::BLANK; 3],
+        blocks: &mut [BlockCandidate::BLANK; 3],
+    };
+    let mut work = Work {
+        numbers: &mut [0; 3],
+        lists,
+    };
+    settle_and_book(rt, passed, day, book, fills, sheet, &mut work, ledger, 1)
+}
+
+/// What voiding the interval of a day with three entries answers while its remainder is out. Then that is noted.
+pub(crate) fn voided_while_out<L: Ledger>(
+    rt: &impl Abort,
+    passed: &Passed,
+    day: &mut Day,
+    book: Book<'_>,
+    fills: Fills<'_>,
+    sheet: &mut [u32],
+    ledger: &mut L,
+) -> Result<(), Refusal> {
+    let lists = Lists {
+        orders: &mut [OrderCandidate::BLANK; 3],
+        blocks: &mut [BlockCandidate::BLANK; 3],
+    };
+    let mut work = Work {
+        numbers: &mut [0; 3],
+        lists,
+    };
+    let remainder = passed.settle(day, book, fills, sheet, &mut work, ledger, 1)?;
+    let answer = passed.void(day, book, sheet, ledger, 1);
+    match day.note(remainder) {
+        Ok(()) => answer,
+        Err(_) => panic!(rt; "what is out should be noted"),
+    }
 }
 
 /// What a day that knows nothing of a remainder answers to it: the number with which it refuses to book it, and to note it. The

@@ -1,4 +1,4 @@
-// The tests of settling, booking, noting and taking up.
+// The tests of settling, booking, noting, taking up and voiding.
 #![tactic(auto)]
 
 #[cfg(test)]
@@ -7,3 +7,5 @@ mod blocks;
 mod days;
 #[cfg(test)]
 mod settles;
+#[cfg(test)]
+mod voids;

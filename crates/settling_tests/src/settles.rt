@@ -6,9 +6,9 @@ use ledgers::Table;
 use market::records::{Book, Fills};
 use std::test::Fail;
 
-const WIDE: i64 = 10_000_000;
+pub(crate) const WIDE: i64 = 10_000_000;
 
-fn account(number: u32, upper: i64) -> Account {
+pub(crate) fn account(number: u32, upper: i64) -> Account {
     Account {
         number,
         balance: 0,
@@ -17,7 +17,7 @@ fn account(number: u32, upper: i64) -> Account {
     }
 }
 
-fn accounts() -> [Account; 5] {
+pub(crate) fn accounts() -> [Account; 5] {
     [
         account(0, WIDE),
         account(1, WIDE),

@@ -1,5 +1,5 @@
 // A worked day: it is started, its book is filled and closed, two papers on it are judged, and the one that passes is cut to whole
-// steps of 0.1 MW. Last come accounts to post to.
+// steps of 0.1 MW. Then come accounts to post to, and last a run of the settling calls on another day.
 #![tactic(auto)]
 
 use accounts::show_accounts;
@@ -9,10 +9,12 @@ use engine::book::calls::start;
 use engine::book::{Closed, Fail, Open, Pass, Passed};
 use engine::day::Day;
 use market::records::{Book, Fills, Market, Order, Side};
+use playing::show_run;
 use settling::show_settling;
 
 mod accounts;
 mod cutting;
+mod playing;
 mod settling;
 
 const PRICE: i32 = 5_000;
@@ -123,7 +125,8 @@ fn run(rt: &HostRuntime) -> anyhow::Result<()> {
     let Ok(passed) = second else {
         return Err(anyhow!("the second paper should have passed"));
     };
-    show_settling(rt, &passed, &mut day, book, fills)
+    show_settling(rt, &passed, &mut day, book, fills)?;
+    show_run(rt)
 }
 
 fn main(rt: HostRuntime) -> anyhow::Result<()> {

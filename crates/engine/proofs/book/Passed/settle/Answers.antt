@@ -3,8 +3,8 @@ use borrow.Author.Differences.{ints}
 use Rattle.std.proofs.lemmas.Int.{to_z-of_z}
 use Rattle.std.proofs.lemmas.Result.{err_from_is_err_and}
 use Rattle.entries.specs.Amounts.{Conditions, conditions}
+use Rattle.entries.specs.Settles.{work_lengths}
 use Rattle.engine.specs.Days.{conditions_in, conditions_of}
-use Rattle.entries.specs.Settles.{lengths}
 use Rattle.engine.specs.Settling.{ready}
 use Rattle.engine.proofs.Settlings.{refused, settled, same_asked}
 use Rattle.engine.proofs.Shown.{number_fits}
@@ -13,15 +13,14 @@ use Rattle.engine.proofs.book.Passed.settle.Goals as goal
 pub overflow_cast-interval : goal.overflow_cast-interval
 overflow_cast-interval g c = number_fits c.args.day.now (to_z w32 (of_z w32 c.args.interval)) c.in_ok-book.ensures.within
 
-pub returns-in_err-steps-clause-settles : goal.returns-in_err-steps-clause-settles
-returns-in_err-steps-clause-settles g c =
+pub returns-in_err-steps-clause-step : goal.returns-in_err-steps-clause-step
+returns-in_err-steps-clause-step g c =
     let p = c.args.self.now in
     let d = c.args.day.now in
     let os = c.args.memory.orders.now in
     let bs = c.args.memory.blocks.now in
     let i : ℤ = c.args.interval in
     let s = c.args.sheet.now in
-    let l = lengths s c.args.work.now in
     let book = c.in_ok-book.book in
     let t : Conditions = conditions c.terms_of-terms.result in
     let at : to_z w32 (of_z w32 i) ≡ i = omega (arith, ints) in
@@ -32,20 +31,19 @@ returns-in_err-steps-clause-settles g c =
     let e = same_asked p d os c.args.fills.orders.now bs c.args.fills.blocks.now i book.orders.now book.blocks.now c.count.result (nat_abs (to_z w32 (of_z w32 i))) t
     c.in_ok-book.ensures.orders c.in_ok-book.ensures.blocks c.count.ensures (ap nat_abs at) et in
     rw (r.1, r.2) (
-    refused p d os c.args.fills.orders.now bs c.args.fills.blocks.now i l _ e
-    (g.L.Accounts.model c.args.ledger.now) (g.L.Accounts.model c.settle_interval.new.ledger) s c.settle_interval.new.sheet
+    refused p d os c.args.fills.orders.now bs c.args.fills.blocks.now i (work_lengths c.args.work.now) s _ e
+    (g.L.Accounts.model c.args.ledger.now) (g.L.Accounts.model c.settle_interval.new.ledger) c.settle_interval.new.sheet
     c.in_err-steps.field-0.0 ok c.in_err-steps.ensures.answers call.writes call.posts
     )
 
-pub returns-clause-settles : goal.returns-clause-settles
-returns-clause-settles g c =
+pub returns-clause-step : goal.returns-clause-step
+returns-clause-step g c =
     let p = c.args.self.now in
     let d = c.args.day.now in
     let os = c.args.memory.orders.now in
     let bs = c.args.memory.blocks.now in
     let i : ℤ = c.args.interval in
     let s = c.args.sheet.now in
-    let l = lengths s c.args.work.now in
     let book = c.in_ok-book.book in
     let t : Conditions = conditions c.terms_of-terms.result in
     let at : to_z w32 (of_z w32 i) ≡ i = omega (arith, ints) in
@@ -57,7 +55,9 @@ returns-clause-settles g c =
     let fits : to_z w32 (of_z w32 y) ≡ y = to_z-of_z w32 y w in
     let e = same_asked p d os c.args.fills.orders.now bs c.args.fills.blocks.now i book.orders.now book.blocks.now c.count.result (nat_abs (to_z w32 (of_z w32 i))) t
     c.in_ok-book.ensures.orders c.in_ok-book.ensures.blocks c.count.ensures (ap nat_abs at) et in
-    settled p d os c.args.fills.orders.now bs c.args.fills.blocks.now i l _ e
-    (g.L.Accounts.model c.args.ledger.now) (g.L.Accounts.model c.settle_interval.new.ledger) s c.settle_interval.new.sheet
-    y c.put_state.new.self (record { interval = to_z w32 (of_z w32 i); steps = to_z w32 (of_z w32 y) }) ok c.in_ok-steps.ensures.answers call.writes call.posts
-    (record { interval = at; amount = fits }) (rw (at, fits) at c.put_state.ensures)
+    rw fits (
+    settled p d os c.args.fills.orders.now bs c.args.fills.blocks.now i (work_lengths c.args.work.now) s _ e
+    (g.L.Accounts.model c.args.ledger.now) (g.L.Accounts.model c.settle_interval.new.ledger) c.settle_interval.new.sheet
+    y c.put_state.new.self ok c.in_ok-steps.ensures.answers call.writes call.posts
+    (rw (at, fits) at c.put_state.ensures)
+    )

@@ -9,11 +9,11 @@ use Rattle.entries.proofs.task.Task.settle_numbers.Goals as goal
 steps_are : (c : goal.After-unwrap-steps) → c.unwrap-steps.result ≡ settle_steps (settlement_of c.args.self)
 unfolding settle_steps
 steps_are c =
-    let r32 : SFits w32 c.args.self.terms.rounded = search rules in
+    let r32 : SFits w32 c.args.self.delivery.terms.rounded = search rules in
     some_is _ _ _ _ (sizes _ _ c.requires) c.unwrap-steps.ensures (simp to_z-of_z at c.settled_numbers.ensures.remainder)
 
 steps_fit : (c : goal.After-unwrap-steps) → SFits w32 c.unwrap-steps.result
-steps_fit c = rw (steps_are c) (steps_small (settlement_of c.args.self) _ c.requires c.args.self.terms.lawful.1)
+steps_fit c = rw (steps_are c) (steps_small (settlement_of c.args.self) _ c.requires c.args.self.delivery.terms.lawful.1)
 
 pub overflow_cast-result : goal.overflow_cast-result
 overflow_cast-result c =
@@ -29,5 +29,5 @@ returns-clause-steps c =
 pub returns-clause-numbers : goal.returns-clause-numbers
 unfolding settle_numbers
 returns-clause-numbers c =
-    let r32 : SFits w32 c.args.self.terms.rounded = search rules in
+    let r32 : SFits w32 c.args.self.delivery.terms.rounded = search rules in
     front_is _ _ c.requires _ _ ((simp to_z-of_z at c.settled_numbers.ensures.numbers) ∙ cond-true _ _ _ (sizes _ _ c.requires))

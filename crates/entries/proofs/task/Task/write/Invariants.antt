@@ -1,7 +1,0 @@
-use Rattle.std.proofs.Common.{◌≡◌, length, get_or}
-use Rattle.entries.specs.Sheet.{written, of_interval, place_of}
-use Rattle.entries.proofs.task.Task.write.Given as goal
-
-abbrev pub invariant-loop-place : goal.invariant-loop-place
-invariant-loop-place l =
-    l.sheet ≡ written (place_of (length l.self.book.orders.now) l.self.intervals l.self.interval) (of_interval l.self.book.orders.now l.self.book.blocks.now l.self.interval) (λ k. get_or l.numbers k 0) l.place l.initial.sheet
