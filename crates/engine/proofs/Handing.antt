@@ -13,7 +13,6 @@ use Rattle.market.proofs.Facts.{between_two, same_yes}
 use Rattle.entries.specs.Settles.{WorkLengths}
 use Rattle.engine.specs.declared.call.Call.TheVariants.{Settle, Note}
 use Rattle.engine.specs.declared.call.Outcome.TheVariants.{Accepted, Refused}
-use Rattle.engine.specs.declared.day.Day.{Day}
 use Rattle.engine.specs.declared.refusal.Refusal.{Refusal}
 use Rattle.engine.specs.declared.refusal.Refusal.TheVariants.{NotOut}
 use Rattle.engine.specs.Days.{place_of, record_of, with_state}

@@ -41,6 +41,13 @@ is_closed Out = false
 is_closed Noted = false
 is_closed Closed = true
 
+-- two marks are the same
+abbrev pub same_mark : Mark → Mark → Bool
+same_mark Unsettled m = is_unsettled m
+same_mark Out m = is_out m
+same_mark Noted m = is_noted m
+same_mark Closed m = is_closed m
+
 -- some interval of the day is out
 abbrev pub any_out : Day → Bool
 any_out d = list_any (λ x. is_out x.mark) (records d)

@@ -4,6 +4,8 @@ use Rattle.ledger.specs.declared.account.Account.{Account}
 use Rattle.ledger.specs.Model.{total}
 use Rattle.market.specs.declared.records.Order.{Order}
 use Rattle.market.specs.declared.records.Block.{Block}
+use Rattle.market.specs.declared.records.Mark.{Mark}
+use Rattle.market.specs.declared.records.Mark.TheVariants.{Unsettled}
 use Rattle.market.specs.declared.refusal.Refusal.TheVariants.{NoInterval, Short}
 use Rattle.market.specs.Bounds.{in_day}
 use Rattle.entries.specs.declared.refused.SettleRefused.{SettleRefused}
@@ -19,7 +21,7 @@ use Rattle.engine.specs.Books.{holds}
 use Rattle.engine.specs.Days.{record_of, conditions_of}
 use Rattle.market.specs.First.{tests}
 use Rattle.std.specs.Result.{result_and}
-use Rattle.engine.specs.Marks.{is_unsettled}
+use Rattle.engine.specs.Marks.{same_mark}
 
 -- a refusal of settling over slices, as one of the call's
 abbrev pub lifted_by : SettleRefused → Refusal
@@ -31,9 +33,13 @@ abbrev pub lifted : {X : Type 0} → Result X SettleRefused → Result X Refusal
 lifted (Ok x) = Ok x
 lifted (Err e) = Err (lifted_by e)
 
--- 3, 19, 11: what is looked at before the book
+-- 3, the refusal of an interval without the mark, 11: what is looked at before the book
+abbrev pub usable : Passed → Day → List Order → List Block → ℤ → Mark → Refusal → Result Unit Refusal
+usable p d os bs i m refusal = tests ((in_day d.count i, Market NoInterval) ∷ (same_mark m (record_of d i).mark, refusal) ∷ (holds p.counts os bs, Market Short) ∷ [])
+
+-- 3, 19, 11: of settling
 abbrev pub ready : Passed → Day → List Order → List Block → ℤ → Result Unit Refusal
-ready p d os bs i = tests ((in_day d.count i, Market NoInterval) ∷ (is_unsettled (record_of d i).mark, NotUnsettled) ∷ (holds p.counts os bs, Market Short) ∷ [])
+ready p d os bs i = usable p d os bs i Unsettled NotUnsettled
 
 module _ (p : Passed) (d : Day) (os : List Order) (fs : List ℕ) (bs : List Block) (gs : List ℕ) (i : ℤ) where
   -- what is settled: the book's own records, by the terms of the interval

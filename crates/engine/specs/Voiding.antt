@@ -1,25 +1,21 @@
 -- Voiding an interval on a passed book: what it answers.
-use Rattle.std.specs.Prelude.{ℕ, List, [], ◌∷◌, take, ℤ, Result, unsigned_abs}
+use Rattle.std.specs.Prelude.{ℕ, List, take, ℤ, Result, unsigned_abs}
 use Rattle.std.specs.Result.{result_and}
 use Rattle.ledger.specs.declared.account.Account.{Account}
 use Rattle.market.specs.declared.records.Order.{Order}
 use Rattle.market.specs.declared.records.Block.{Block}
-use Rattle.market.specs.declared.refusal.Refusal.TheVariants.{NoInterval, Short}
-use Rattle.market.specs.Bounds.{in_day}
-use Rattle.market.specs.First.{tests}
+use Rattle.market.specs.declared.records.Mark.TheVariants.{Closed}
 use Rattle.entries.specs.Voids.{Reversal, void_answer as slices_answer}
 use Rattle.engine.specs.declared.day.Day.{Day}
 use Rattle.engine.specs.declared.book.Passed.{Passed}
 use Rattle.engine.specs.declared.refusal.Refusal.{Refusal}
-use Rattle.engine.specs.declared.refusal.Refusal.TheVariants.{Market, NotClosed}
-use Rattle.engine.specs.Books.{holds}
+use Rattle.engine.specs.declared.refusal.Refusal.TheVariants.{NotClosed}
 use Rattle.engine.specs.Days.{record_of, conditions_of}
-use Rattle.engine.specs.Marks.{is_closed}
-use Rattle.engine.specs.Settling.{lifted}
+use Rattle.engine.specs.Settling.{usable, lifted}
 
 -- 3, 24, 11: what is looked at before the book
 abbrev pub voidable : Passed → Day → List Order → List Block → ℤ → Result Unit Refusal
-voidable p d os bs i = tests ((in_day d.count i, Market NoInterval) ∷ (is_closed (record_of d i).mark, NotClosed) ∷ (holds p.counts os bs, Market Short) ∷ [])
+voidable p d os bs i = usable p d os bs i Closed NotClosed
 
 module _ (p : Passed) (d : Day) (os : List Order) (bs : List Block) (i : ℤ) where
   -- what is voided: the book's own records, by the terms of the interval and the remainder that was booked

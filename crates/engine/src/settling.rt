@@ -1,10 +1,8 @@
 // Settling an interval on a passed book.
-ghost use Rattle.std.specs.Prelude.{◌≡◌, length, take, true, Ok, Err, IfOk, OnOk, IfErr};
-ghost use Rattle.market.specs.Bounds.{in_day};
 ghost use Rattle.entries.specs.Settles.{work_lengths, SameSlices};
 ghost use Rattle.engine.specs.declared.call.Call.TheVariants.{Settle};
 ghost use Rattle.engine.specs.Marks.{Hands};
-ghost use Rattle.engine.specs.Settling.{ready, Moves};
+ghost use Rattle.engine.specs.Settling.{Moves};
 ghost use Rattle.engine.specs.Steps.{paper_of, state_of, Takes, handing};
 
 use super::book::Passed;
@@ -14,26 +12,8 @@ use super::remainder::Remainder;
 use entries::{Work, settle_interval};
 use ledger::Ledger;
 use market::records::{Book, Fills, Mark};
-use market::refusal::Refusal as MarketRefusal;
 
 impl Passed {
-    // The entries of the book in the memory, where the interval is unsettled: 3, 19, 11.
-    fn ready<'a>(&self, day: &Day, memory: Book<'a>, interval: i32) -> Result<Book<'a>, Refusal>
-        ensures refuses { IfErr result (λ refusal. ready self.now day.now memory.entry.orders.now memory.entry.blocks.now interval ≡ Err refusal) }
-        ensures passes { OnOk result (ready self.now day.now memory.entry.orders.now memory.entry.blocks.now interval ≡ Ok tt) }
-        ensures within { OnOk result (in_day day.now.count interval ≡ true) }
-        ensures orders { IfOk result (λ book. book.orders.now ≡ take self.now.counts.orders memory.entry.orders.now) }
-        ensures blocks { IfOk result (λ book. book.blocks.now ≡ take self.now.counts.blocks memory.entry.blocks.now) }
-    {
-        let record = day.interval(interval).ok_or(MarketRefusal::NoInterval)?;
-        if record.mark != Mark::Unsettled {
-            return Err(Refusal::NotUnsettled);
-        }
-        self.counts
-            .held(memory)
-            .ok_or(Refusal::Market(MarketRefusal::Short))
-    }
-
     /// Settles an interval by the passed paper and hands its remainder over, also when it is 0.
     ///
     /// The settled numbers of the interval's entries go into the sheet, their amounts to the accounts of the entries, plus for sells
@@ -56,7 +36,13 @@ impl Passed {
         ensures keeps { L.Ledger.kept ledger.old ledger.new }
         ensures slices { SameSlices work.old work.new }
     {
-        let book = self.ready(day, memory, interval)?;
+        let book = self.usable(
+            day,
+            memory,
+            interval,
+            Mark::Unsettled,
+            Refusal::NotUnsettled,
+        )?;
         let terms = day.terms_of(day.record(interval));
         let steps = settle_interval(
             book,

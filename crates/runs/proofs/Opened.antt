@@ -1,5 +1,5 @@
 -- What a day shows as open is what the history has unbooked.
-use Rattle.std.proofs.Common.{◌≡◌, ℕ, zero, suc, ◌+◌, ◌-◌, ◌<◌, ◌≤◌, Bool, cond, ◌||◌, List, [], ◌∷◌, ◌++◌, length, get_or, take, ℤ, pos, ◌+ℤ◌, ◌*ℤ◌, sym, refl, ap, ◌∙◌, arith}
+use Rattle.std.proofs.Common.{◌≡◌, ℕ, zero, suc, ◌-◌, ◌≤◌, Bool, cond, ◌||◌, List, [], ◌∷◌, ◌++◌, length, get_or, take, ℤ, pos, ◌+ℤ◌, ◌*ℤ◌, sym, refl, ap, ◌∙◌, arith}
 use borrow.Author.Differences.{ints}
 use Rattle.std.proofs.Math.Seq.{take-suc}
 use Rattle.std.proofs.lemmas.List.{get_or-take, take_all}
@@ -8,14 +8,13 @@ use Rattle.market.specs.declared.records.Mark.TheVariants.{Unsettled, Out, Noted
 use Rattle.market.specs.declared.records.Interval.{Interval}
 use Rattle.market.specs.Blank.{fresh}
 use Rattle.entries.specs.Amounts.{Conditions, worth}
-use Rattle.engine.specs.declared.day.Day.{Day}
-use Rattle.engine.specs.Days.{records, record_of, conditions_in, conditions_of, quarters_of}
+use Rattle.engine.specs.Days.{records, conditions_in, conditions_of, quarters_of}
 use Rattle.engine.specs.Marks.{is_out, is_noted}
 use Rattle.engine.specs.Booking.{open_part, open_sum, open_worth}
 use Rattle.engine.specs.Steps.{Paper, State}
 use Rattle.engine.proofs.Opens.{count_records}
 use Rattle.runs.specs.Runs.{Event, unbooked, settled, sum_to, unbooked_worth, numbers_in}
-use Rattle.runs.proofs.Kept.{Within, record_at, Agree, cut_of, due_of, AgreeAt, worth_at, Kept, worth_nil, sum_same}
+use Rattle.runs.proofs.Kept.{Within, record_at, Agree, cut_of, due_of, worth_at, Kept, worth_nil, sum_same}
 
 -- the parts of one more record
 open_more : (minutes : ℤ) (xs : List Interval) (x : Interval) → open_sum minutes (xs ++ x ∷ []) ≡ open_sum minutes xs +ℤ open_part minutes x

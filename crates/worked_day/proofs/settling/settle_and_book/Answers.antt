@@ -1,5 +1,5 @@
 -- A remainder that could not be booked is noted without refusal: the day still shows it out.
-use Rattle.std.proofs.Common.{◌≡◌, true, ℤ, [], pos, sym, ap, ◌∙◌}
+use Rattle.std.proofs.Common.{◌≡◌, true, ℤ, [], pos, ap, ◌∙◌}
 use Rattle.entries.specs.Settles.{work_lengths}
 use Rattle.engine.specs.declared.day.Day.{Day}
 use Rattle.engine.specs.declared.remainder.Remainder.{Remainder}
