@@ -1,4 +1,4 @@
-// What each refusal reads like as text. Expected is what stands in docs/REFUSALS.md: the number, where there is one the place, the reason.
+// What each refusal reads like as text. The texts are written out here once more: the number, where there is one the place, and the reason.
 use engine::refusal::Refusal;
 use ledger::PostRefused;
 use market::refusal::Refusal as MarketRefusal;
