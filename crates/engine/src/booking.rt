@@ -44,8 +44,8 @@ impl Day {
                 remainder,
             });
         }
-        let Remainder { interval, steps: _ } = remainder;
-        self.put_mark(interval, Mark::Closed);
+        self.put_mark(remainder.interval, Mark::Closed);
+        remainder.lay_down();
         Ok(())
     }
 

@@ -24,8 +24,8 @@ impl Day {
                 remainder,
             });
         }
-        let Remainder { interval, steps: _ } = remainder;
-        self.put_mark(interval, Mark::Noted);
+        self.put_mark(remainder.interval, Mark::Noted);
+        remainder.lay_down();
         Ok(())
     }
 

@@ -26,16 +26,6 @@ pub struct Running {
     day: Day,
 }
 
-impl Remainder {
-    // Lays a remainder down: the day shows it out.
-    fn lay_down(self) -> i32
-        ensures { result ≡ self.steps }
-    {
-        let Remainder { interval: _, steps } = self;
-        steps
-    }
-}
-
 // What came of a call that hands a remainder over.
 fn handed(res: Result<Remainder, Refusal>) -> Outcome
     ensures { result ≡ handing res }

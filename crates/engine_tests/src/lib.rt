@@ -7,3 +7,5 @@ mod books;
 mod bounds;
 #[cfg(test)]
 mod papers;
+#[cfg(test)]
+mod texts;

@@ -9,12 +9,12 @@ use Rattle.entries.specs.Lawful.{quarters_ok}
 use Rattle.entries.specs.Amounts.{conditions, worth}
 use Rattle.entries.specs.declared.terms.Terms.{Terms}
 
-at_most_four : (q : ℕ) → quarters_ok q ≡ true → q ≤ 4
+pub at_most_four : (q : ℕ) → quarters_ok q ≡ true → q ≤ 4
 at_most_four q e = grind (arith, nat_tests)
 
 module _ (t : Terms) (z : ℤ) (w : Within 4294967296 z) where
   -- price × steps
-  priced_small : unsigned_abs (t.price *ℤ z) ≤ 1717986918400000
+  pub priced_small : unsigned_abs (t.price *ℤ z) ≤ 1717986918400000
   priced_small = let s : unsigned_abs z ≤ 4294967296 = omega (arith, ints, abs_is z) in rw unsigned_abs-mul (mul-le-mul (priced t.price t.lawful.0) s)
 
   pub priced_fits : SFits w64 (t.price *ℤ z)

@@ -14,7 +14,6 @@ use Rattle.verdict.proofs.Firsts.{then_ok}
 use Rattle.verdict.proofs.Eachs.{each_at}
 use Rattle.verdict.proofs.Judging.{sized_from, orders_mild, blocks_mild}
 use Rattle.cuts.specs.Rounding.{nearest}
-use Rattle.cuts.specs.Settled.{remainder_of}
 use Rattle.cuts.proofs.Remainders.{settles}
 use Rattle.entries.specs.Lawful.{rounded_ok}
 use Rattle.entries.specs.Sheet.{Laid}
@@ -79,11 +78,14 @@ rounded_small r e = let b = between_two (neg_ℤ (pos 11000000)) r (pos 11000000
 nearest_small : (fs : List ℕ) → ((k : ℕ) → get_or fs k 0 ≤ 1000000) → (k : ℕ) → nearest (get_or fs k 0) ≤ 10000
 nearest_small fs h k = let s = h k in omega arith
 
--- the remainder fits 32 bits
-pub steps_small : (x : Settlement) (w : WorkLengths) → SizedFor x w → rounded_ok x.by.rounded ≡ true → SFits w32 (settle_steps x)
+-- no remainder is larger
+pub steps_small : (x : Settlement) (w : WorkLengths) → SizedFor x w → rounded_ok x.by.rounded ≡ true → unsigned_abs (settle_steps x) ≤ 21880000
 unfolding settle_steps
 steps_small x w s e =
     let r = rounded_small x.by.rounded e in
     let small = (settles x.orders x.order_fills x.blocks x.block_fills x.interval x.by.rounded).small 10000 (nearest_small x.order_fills s.order_small) (nearest_small x.block_fills s.block_small) in
-    let most : unsigned_abs (remainder_of x.orders x.order_fills x.blocks x.block_fills x.interval x.by.rounded) ≤ 21880000 = omega (arith, s.orders, s.blocks, s.order_fills, s.block_fills) in
-    fits_signed_from_abs w32 _ (omega arith)
+    omega (arith, s.orders, s.blocks, s.order_fills, s.block_fills)
+
+-- so small, it fits 32 bits
+pub steps_fit : (z : ℤ) → unsigned_abs z ≤ 21880000 → SFits w32 z
+steps_fit z small = fits_signed_from_abs w32 z (omega arith)

@@ -2,7 +2,22 @@
 ghost use Rattle.std.specs.Prelude.{◌≡◌};
 ghost use Rattle.market.specs.Refusals.{number_of, place_of};
 
+use std::fmt;
 use thiserror::Error;
+
+// The entry in the text of a refusal. There is no entry 0, and nothing is said of it.
+#[derive(Drop)]
+struct At<'a>(&'a u32);
+
+impl fmt::Display for At<'_> {
+    fn fmt<W: fmt::Write>(&self, f: &mut fmt::Formatter<W>) -> fmt::Result {
+        let entry = *self.0;
+        if entry == 0 {
+            return Ok(());
+        }
+        write!(f, " at entry {entry}")
+    }
+}
 
 /// The refusals of the book and of its verdict. An entry is an order's or a block's number: orders count from 1, and blocks
 /// carry on after the last order.
@@ -28,17 +43,17 @@ pub enum Refusal {
     Percentage,
     #[error("{}: a memory is too short, or there is not one fill for each entry", self.number())]
     Short,
-    #[error("{} at entry {entry}: the record is outside the bounds of entry", self.number())]
+    #[error("{}{}: the record is outside the bounds of entry", self.number(), At(.entry))]
     OutsideBounds { entry: u32 },
-    #[error("{} at entry {entry}: the fill exceeds the quantity", self.number())]
+    #[error("{}{}: the fill exceeds the quantity", self.number(), At(.entry))]
     OverQuantity { entry: u32 },
-    #[error("{} at entry {entry}: the limit is worse than the price, so nothing of it may be filled", self.number())]
+    #[error("{}{}: the limit is worse than the price, so nothing of it may be filled", self.number(), At(.entry))]
     ShouldBeEmpty { entry: u32 },
-    #[error("{} at entry {entry}: the limit is better than the price, so all of it must be filled", self.number())]
+    #[error("{}{}: the limit is better than the price, so all of it must be filled", self.number(), At(.entry))]
     ShouldBeFull { entry: u32 },
-    #[error("{} at entry {entry}: the block is filled below its least percentage", self.number())]
+    #[error("{}{}: the block is filled below its least percentage", self.number(), At(.entry))]
     BelowLeast { entry: u32 },
-    #[error("{} at entry {entry}: the prices of its intervals do not reach the block's limit", self.number())]
+    #[error("{}{}: the prices of its intervals do not reach the block's limit", self.number(), At(.entry))]
     BlockPrice { entry: u32 },
     #[error("{} at interval {interval}: sales less purchases are not the net position", self.number())]
     Unbalanced { interval: u32 },

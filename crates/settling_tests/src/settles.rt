@@ -1,9 +1,11 @@
 // What settling leaves, accepted and refused.
 use crate::days::{FILLS, offered_elsewhere, orders, passed_day, settle_three};
+use engine::day::Day;
 use engine::refusal::Refusal;
 use ledger::{Account, PostRefused};
 use ledgers::Table;
 use market::records::{Book, Fills};
+use market::refusal::Refusal as MarketRefusal;
 use std::test::Fail;
 
 pub(crate) const WIDE: i64 = 10_000_000;
@@ -148,5 +150,23 @@ fn a_foreign_remainder_is_given_back(rt: HostRuntime) -> Result<(), Fail> {
         (22, 22)
     );
     assert_eq!(rt; day.open_worth(), 0);
+    Ok(())
+}
+
+// What taking up of interval 0 answers. A remainder would be let go here: the check finds that none can come of it.
+fn taken_up_at_0(day: &mut Day) -> Result<i32, Refusal> {
+    match day.take_up(0) {
+        Ok(held) => Ok(held.steps()),
+        Err(refusal) => Err(refusal),
+    }
+}
+
+#[test]
+fn where_there_is_no_remainder_none_is_let_go(rt: HostRuntime) -> Result<(), Fail> {
+    let (mut day, _passed) = passed_day(60, 40, 3, &FILLS)?;
+    assert_eq!(rt;
+        taken_up_at_0(&mut day),
+        Err(Refusal::Market(MarketRefusal::NoInterval))
+    );
     Ok(())
 }
